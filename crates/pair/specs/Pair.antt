@@ -1,0 +1,47 @@
+-- Two chips as one: the second takes words once the first is full and settled.
+--   pair-refusal ra rb ca cb             why two chips of capacities ra and rb with ca and cb words make no pair
+--   pair-words a b                       the accepted words, at most 1 048 576
+--   pair-room ra rb ca cb                how many words it can hold; once the second has one, the first takes no more
+--   pair-settled sa sb                   how many words are settled
+--   PairOrdered ra rb ca cb sa           the capacities are within the limit, and the second has words only behind
+--                                        a first that is full and settled
+--   PairPasses ..                        what a mount of both finds, moment by moment. What is found on the first changes
+--                                        only while nothing is found on the second, and what is found on the second
+--                                        only while the first is found full; so a mount is refused at no moment
+use Prim.Native.Nat.{ℕ, min, _+_, _<_, _≤_}
+use mathlib.Core.Bool.{cond, _&&_}
+use mathlib.Core.List.{List, [], _∷_, _++_, map}
+use mathlib.Core.Path.{_≡_}
+use lib.Dec.{ltb}
+use lib.ListN.{length, take}
+use Rattle.std.specs.shelf.Lists.{All}
+use Rattle.std.specs.declared.option.Option.{Option}
+use Rattle.std.specs.declared.option.Option.the-variants.{Some, None}
+use Rattle.chip.specs.declared.refusal.Refusal.{Refusal}
+use Rattle.chip.specs.declared.refusal.Refusal.the-variants.{PairTooLarge, FirstNotFull}
+
+abbrev pub pair-refusal : ℕ → ℕ → ℕ → ℕ → Option Refusal
+pair-refusal ra rb ca cb =
+    cond (ltb 1048576 (ra + rb)) (Some PairTooLarge) (cond (ltb ca ra && ltb 0 cb) (Some FirstNotFull) None)
+
+abbrev pub pair-words : List ℕ → List ℕ → List ℕ
+pair-words a b = take 1048576 (a ++ b)
+
+abbrev pub pair-room : ℕ → ℕ → ℕ → ℕ → ℕ
+pair-room ra rb ca cb = min 1048576 (cond (ltb 0 cb) ca ra + rb)
+
+abbrev pub pair-settled : ℕ → ℕ → ℕ
+pair-settled sa sb = min 1048576 (sa + sb)
+
+pub record PairOrdered (ra rb ca cb sa : ℕ) : Type 0 where
+  pub within : ra + rb ≤ 1048576
+  pub full : 0 < cb → ca ≡ ra
+  pub settled : 0 < cb → sa ≡ ca
+
+module _ {A B : Type 0} (passes-first : A → List (List ℕ) → A → Type 0) (passes-second : B → List (List ℕ) → B → Type 0) (room-first : A → ℕ) (left-first : A → List ℕ) (left-second : B → List ℕ) where
+  pub data PairPasses : A → B → List (List ℕ) → A → B → Type 0 where
+    still : {a : A} {b : B} → PairPasses a b [] a b
+    first-moves : {a a′ c : A} {b d : B} {moments more : List (List ℕ)} → passes-first a moments a′ → left-second b ≡ [] → PairPasses a′ b more c d → PairPasses a b (map (λ l. l ++ left-second b) moments ++ more) c d
+    first-stays : {a a′ c : A} {b d : B} {moments more : List (List ℕ)} → passes-first a moments a′ → length (left-first a) ≡ room-first a → All (λ l. l ≡ left-first a) moments → left-first a′ ≡ left-first a → PairPasses a′ b more c d → PairPasses a b (map (λ l. l ++ left-second b) moments ++ more) c d
+    second-moves : {a c : A} {b b′ d : B} {moments more : List (List ℕ)} → passes-second b moments b′ → length (left-first a) ≡ room-first a → PairPasses a b′ more c d → PairPasses a b (map (λ l. left-first a ++ l) moments ++ more) c d
+    second-stays : {a c : A} {b b′ d : B} {moments more : List (List ℕ)} → passes-second b moments b′ → left-second b ≡ [] → All (λ l. l ≡ left-second b) moments → left-second b′ ≡ left-second b → PairPasses a b′ more c d → PairPasses a b (map (λ l. left-first a ++ l) moments ++ more) c d
