@@ -9,9 +9,9 @@ use lib.ListN.{length, take, drop, set, getD}
 use Rattle.std.specs.shelf.Lists.{All}
 use Rattle.std.proofs.shelf.Elements.{all-weaker, all-map}
 use Rattle.std.proofs.shelf.Lists.{append-nil, append-assoc, length-append, length-set, length-take, length-take-le, take-all, take-more-set, getD-take, getD-append-left, getD-append-right, getD-default}
-use Rattle.std.proofs.shelf.Tests.{and-parts, and-from, lt-ltb, ltb-true}
+use Rattle.std.proofs.shelf.Tests.{and-parts, lt-ltb, le-ltb, ltb-true}
 use Rattle.chip.specs.Cut.{Kept, Gapless}
-use Rattle.chip.specs.Page.{page-room, page-words, page-found, all-blank, none-blank, blank-behind, page-sound, PageIntact, PageMounted, written, writes}
+use Rattle.chip.specs.Page.{page-room, page-words, page-early, page-found, all-blank, none-blank, blank-behind, page-sound, PageIntact, PageMounted, written, writes}
 use Rattle.chip.proofs.Finding.{kept-front, found-front, behind-is, none-blank-push, Programmed, programmed}
 use Rattle.chip.proofs.Writing.{length-written, take-written, take-settled}
 
@@ -62,11 +62,11 @@ module _ (ws : List ℕ) (n : ℕ) (page : List ℕ) (some : 0 < length ws) (few
   pub mount-accepted : all-blank (drop n ws) ≡ true → true ≡ page-sound ws
   mount-accepted blank = sym (sound-is ws some few ∙ behind ∙ blank)
 
-  pub mount-made : all-blank (drop n ws) ≡ true → PageMounted ws ws n page 0
+  pub mount-made : all-blank (drop n ws) ≡ true → PageMounted ws n page 0
   mount-made blank =
       let within = found-within ws in
       let intact : PageIntact ws n page 0 = record { sound = sym (mount-accepted blank); counted = counted; fits = omega arith; unblank = refl } in
-      record { same-memory = refl; accepted = intact-words ws n page 0 intact ∙ append-nil (page-found ws); settled = omega arith; room = intact-room ws n page 0 intact; intact = intact }
+      record { accepted = intact-words ws n page 0 intact ∙ append-nil (page-found ws); settled = omega arith; room = intact-room ws n page 0 intact; intact = intact }
 
 pub length-words : (ws : List ℕ) (n : ℕ) (page : List ℕ) (k : ℕ) → k ≤ length page → length (page-words ws n page k) ≡ min (n + k) (page-room ws)
 length-words ws n page k within = simp (length-take, length-append) (omega arith)
@@ -160,3 +160,10 @@ settled-words ws n page k within =
 
 pub page-bounded : (ws : List ℕ) (n : ℕ) (page : List ℕ) (k : ℕ) → (min n (page-room ws) ≤ length (page-words ws n page k)) × (length (page-words ws n page k) ≤ page-room ws) × (page-room ws ≤ 1048576)
 page-bounded ws n page k = (simp (length-take, length-append) (omega arith), simp length-take (omega arith), omega arith)
+
+-- a word more that waits, or a page that is programmed
+pub early-waits : (ws : List ℕ) (n k : ℕ) → k < 15 → page-early ws n k ≡ min n (page-room ws)
+early-waits ws n k few = ap (λ b. min (cond b n (n + 16)) (page-room ws)) (lt-ltb k 15 few)
+
+pub early-programs : (ws : List ℕ) (n k : ℕ) → 15 ≤ k → page-early ws n k ≡ min (n + 16) (page-room ws)
+early-programs ws n k last = ap (λ b. min (cond b n (n + 16)) (page-room ws)) (le-ltb k 15 last)

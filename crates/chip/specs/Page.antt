@@ -1,7 +1,10 @@
 -- The page chip. Blank memory is all ones, and a mount finds the words before the first blank one.
 --   page-room words                      how many words it can hold
 --   page-words words n page k            the words it has accepted: n programmed and k waiting, as far as there is room
+--   page-early words n k                 how many are settled after one more word: with the sixteenth, all
 --   page-found words                     what a mount finds
+--   all-blank, none-blank words          all of them are blank, or none is
+--   blank-behind words                   nothing but blank words behind the first blank one
 --   page-sound words                     what a mount accepts: 1 to 1 048 576 words, blank behind the first blank one
 --   PageIntact words n page k            the n programmed words are those that a mount finds, the k waiting ones fit
 --                                        behind them, and none of these is blank
@@ -19,6 +22,9 @@ page-room words = min 1048576 (length words)
 
 abbrev pub page-words : List ℕ → ℕ → List ℕ → ℕ → List ℕ
 page-words words n page k = take (page-room words) (take n words ++ take k page)
+
+abbrev pub page-early : List ℕ → ℕ → ℕ → ℕ
+page-early words n k = min (cond (ltb k 15) n (n + 16)) (page-room words)
 
 abbrev pub page-found : List ℕ → List ℕ
 page-found [] = []
@@ -53,10 +59,9 @@ abbrev pub writes : List ℕ → ℕ → List ℕ → List (List ℕ)
 writes words at [] = []
 writes words at (w ∷ ws) = set words at w ∷ writes (set words at w) (suc at) ws
 
--- the chip that a mount makes of a memory `words`; `now` is what its memory holds then
-pub record PageMounted (words now : List ℕ) (n : ℕ) (page : List ℕ) (k : ℕ) : Type 0 where
-  pub same-memory : now ≡ words
-  pub accepted : page-words now n page k ≡ page-found words
-  pub settled : min n (page-room now) ≡ length (page-found words)
-  pub room : page-room now ≡ length words
-  pub intact : PageIntact now n page k
+-- the chip that a mount makes of a memory that holds `words`
+pub record PageMounted (words : List ℕ) (n : ℕ) (page : List ℕ) (k : ℕ) : Type 0 where
+  pub accepted : page-words words n page k ≡ page-found words
+  pub settled : min n (page-room words) ≡ length (page-found words)
+  pub room : page-room words ≡ length words
+  pub intact : PageIntact words n page k

@@ -1,6 +1,6 @@
 // A chip: a log of words that grows at its end and keeps what it has settled when the power goes.
 ghost use Prim.Native.Nat.{ℕ, _≤_};
-ghost use mathlib.Core.Bool.{false};
+ghost use mathlib.Core.Bool.{true, false};
 ghost use mathlib.Core.List.{List, [], _++_};
 ghost use mathlib.Core.Path.{_≡_};
 ghost use lib.ListN.{length};
@@ -19,7 +19,10 @@ pub trait Chip: Sized {
     // How many words it can hold.
     ghost room: { Self → ℕ };
 
-    // It was mounted, and has been changed by its own calls alone since then.
+    // How many are settled after the next Append, if that is accepted. This is free: each kind of chip says it.
+    ghost early: { Self → ℕ };
+
+    // A state in which the cut rule holds: a mount gives such a chip, and every call keeps it so.
     ghost intact: { Self → Type 0 };
 
     // The words that a mount finds if the power goes now.
@@ -48,12 +51,14 @@ pub trait Chip: Sized {
     fn read_word(&self, place: u32) -> Result<u32, Refusal>
         ensures { λ r. ⌜ r ≡ read-answer (accepted (now (self .entry))) place ⌝ };
 
-    // Puts a word at the end. How many words are settled early is free.
+    // Puts a word at the end. How many words are then settled is free: never fewer than before, and by the law
+    // `bounded` never more than are accepted.
     fn append(&mut self, word: u32) -> Result<(), Refusal>
         ensures answer { λ r. ⌜ r ≡ append-answer (room (now (self .entry))) (accepted (now (self .entry))) word ⌝ }
         ensures words { λ _. ⌜ accepted (now (self .exit)) ≡ append-leaves (room (now (self .entry))) (accepted (now (self .entry))) word ⌝ }
         ensures same_room { λ _. ⌜ room (now (self .exit)) ≡ room (now (self .entry)) ⌝ }
         ensures free_settled { λ _. ⌜ settled (now (self .entry)) ≤ settled (now (self .exit)) ⌝ }
+        ensures settles_early { λ r. ⌜ (isOk r ≡ true → settled (now (self .exit)) ≡ early (now (self .entry))) ⌝ }
         ensures refusal_changes_nothing { λ r. ⌜ (isOk r ≡ false → now (self .exit) ≡ now (self .entry)) ⌝ }
         ensures cut_inside { λ _. ⌜ (intact (now (self .entry)) → intact (now (self .exit)) × Moments passes (now (self .entry)) (now (self .exit)) (accepted (now (self .exit))) (settled (now (self .entry)))) ⌝ };
 

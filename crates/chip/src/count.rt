@@ -1,5 +1,5 @@
 // A chip that keeps the number of its words in the first word of its memory, and writes each word before the number.
-ghost use Prim.Native.Nat.{ℕ, min, _-_, _≤_};
+ghost use Prim.Native.Nat.{ℕ, min, _+_, _-_, _≤_};
 ghost use mathlib.Core.Bool.{Bool, true};
 ghost use mathlib.Core.List.{List};
 ghost use mathlib.Core.Path.{_≡_};
@@ -68,6 +68,8 @@ pub impl<M: Memory> Chip for CountChip<M> as CountChipChip {
     ghost settled = { λ s. count-of (M·Memory .holds (s .memory)) };
 
     ghost room = { λ s. count-room (M·Memory .holds (s .memory)) };
+
+    ghost early = { λ s. count-of (M·Memory .holds (s .memory)) + 1 };
 
     ghost intact = { λ s. count-sound (M·Memory .holds (s .memory)) ≡ true };
 

@@ -6,7 +6,7 @@ ghost use mathlib.Core.Path.{_≡_};
 ghost use lib.ListN.{length, take, drop};
 ghost use Rattle.std.specs.Results.{isOk, Cases};
 ghost use Rattle.chip.specs.Leaf.{LeafPasses};
-ghost use Rattle.chip.specs.Page.{page-room, page-words, page-found, page-sound, all-blank, PageIntact, PageMounted, written, writes};
+ghost use Rattle.chip.specs.Page.{page-room, page-words, page-early, page-found, page-sound, all-blank, PageIntact, PageMounted, written, writes};
 ghost use Rattle.chip.specs.declared.refusal.Refusal.the-variants.{UnfitMemory};
 use crate::chip::Chip;
 use crate::memory::Memory;
@@ -66,7 +66,7 @@ impl<M: Memory> PageChip<M> {
     // A chip on what a memory holds; one that no page chip left is handed back.
     pub fn mount(memory: M) -> Result<PageChip<M>, Unmounted<M>>
         ensures sound { λ r. ⌜ isOk r ≡ page-sound (M·Memory .holds memory) ⌝ }
-        ensures chip { λ r. ⌜ Cases r (λ c. PageMounted (M·Memory .holds memory) (M·Memory .holds (c .memory)) (c .programmed) (c .page) (c .waiting)) (λ e. (e .memory ≡ memory) × (e .refusal ≡ UnfitMemory)) ⌝ }
+        ensures chip { λ r. ⌜ Cases r (λ c. (c .memory ≡ memory) × PageMounted (M·Memory .holds memory) (c .programmed) (c .page) (c .waiting)) (λ e. (e .memory ≡ memory) × (e .refusal ≡ UnfitMemory)) ⌝ }
     {
         let len = memory.len();
         if len == 0 || len > MOST {
@@ -122,6 +122,8 @@ pub impl<M: Memory> Chip for PageChip<M> as PageChipChip {
     ghost settled = { λ s. min (s .programmed) (page-room (M·Memory .holds (s .memory))) };
 
     ghost room = { λ s. page-room (M·Memory .holds (s .memory)) };
+
+    ghost early = { λ s. page-early (M·Memory .holds (s .memory)) (s .programmed) (s .waiting) };
 
     ghost intact = { λ s. PageIntact (M·Memory .holds (s .memory)) (s .programmed) (s .page) (s .waiting) };
 

@@ -1,6 +1,6 @@
 -- Two chips as one: words, moments and what is left at a cut.
 use Prim.Native.Nat.{ℕ, min, _+_, _-_, _<_, _≤_}
-use mathlib.Core.Bool.{true, false, cond, _&&_}
+use mathlib.Core.Bool.{Bool, false, cond, _&&_}
 use mathlib.Core.List.{List, [], _∷_, _++_, map}
 use mathlib.Core.Logic.{⊎-elim, inl, inr}
 use mathlib.Core.Path.{_≡_, refl, sym, ap, subst, _∙_}
@@ -13,7 +13,7 @@ use Rattle.std.proofs.shelf.Lists.{append-nil, append-assoc, length-append, len
 use Rattle.std.proofs.shelf.Tests.{cases-lt, lt-ltb, le-ltb, and-from, and-left, and-right}
 use Rattle.chip.specs.Calls.{read-answer}
 use Rattle.chip.specs.Cut.{Kept, Gapless}
-use Rattle.pair.specs.Pair.{pair-refusal, pair-words, pair-room, pair-settled, PairOrdered}
+use Rattle.pair.specs.Pair.{pair-refusal, pair-words, pair-room, pair-settled, pair-early, PairMade, PairOrdered}
 use Rattle.chip.specs.declared.refusal.Refusal.{Refusal}
 use Rattle.chip.specs.declared.refusal.Refusal.the-variants.{PairTooLarge, FirstNotFull}
 use Rattle.chip.proofs.CallLaws.{read-within}
@@ -152,3 +152,26 @@ module _ (ra rb ca cb : ℕ) where
 
   pub made-full : pair-refusal ra rb ca cb ≡ None → 0 < cb → ra ≤ ca
   made-full none some = ⊎-elim (λ gap. absurd (some-is-not-none FirstNotFull none (refused-gap (made-within none) gap some))) (λ full. full) (cases-lt ca ra)
+
+-- how many are settled after one more word
+module _ (ra ca cb sa sb ea eb : ℕ) where
+  abbrev choice : Bool → Bool → ℕ
+  choice behind gap = min 1048576 (cond behind (sa + eb) (cond gap (ea + sb) (ca + eb)))
+
+  pub early-behind : 0 < cb → pair-early ra ca cb sa sb ea eb ≡ min 1048576 (sa + eb)
+  early-behind some = ap (λ b. choice b (ltb ca ra)) (lt-ltb 0 cb some)
+
+  pub early-before : cb ≤ 0 → ca < ra → pair-early ra ca cb sa sb ea eb ≡ min 1048576 (ea + sb)
+  early-before none gap = ap (λ b. choice b (ltb ca ra)) (le-ltb 0 cb none) ∙ ap (choice false) (lt-ltb ca ra gap)
+
+  pub early-first-behind : cb ≤ 0 → ra ≤ ca → pair-early ra ca cb sa sb ea eb ≡ min 1048576 (ca + eb)
+  early-first-behind none full = ap (λ b. choice b (ltb ca ra)) (le-ltb 0 cb none) ∙ ap (choice false) (le-ltb ca ra full)
+
+-- a new pair, of chips that are not refused
+pub pair-made : (a b : List ℕ) (ra rb sb : ℕ) (a′ : List ℕ) (ra′ sa′ : ℕ) → pair-refusal ra rb (length a) (length b) ≡ None → length a ≤ ra → sb ≤ length b → length b ≤ rb → a′ ≡ a → ra′ ≡ ra → sa′ ≡ length a → PairMade a b ra rb sb a′ b ra′ rb sa′ sb
+pair-made a b ra rb sb a′ ra′ sa′ none fits-a settled-b fits-b same room settled =
+    let small = made-within ra rb (length a) (length b) none in
+    let long : length a′ ≡ length a = ap length same in
+    let ordered : PairOrdered ra′ rb (length a′) (length b) sa′ =
+    record { within = omega arith; full = λ some. omega (arith, made-full ra rb (length a) (length b) none some); settled = λ _. omega arith } in
+    record { not-refused = none; words = ap (λ l. pair-words l b) same ∙ pair-whole a b (omega arith); room = ordered-room ra′ rb (length a′) (length b) sa′ ordered ∙ omega arith; settled = omega arith; ordered = ordered }

@@ -2,7 +2,7 @@
 ghost use Prim.Native.Nat.{ℕ};
 ghost use mathlib.Core.List.{List};
 ghost use mathlib.Core.Path.{_≡_};
-ghost use Rattle.pair.specs.Either.{by, EitherPasses};
+ghost use Rattle.pair.specs.Either.{of-inside, EitherPasses};
 use chip::chip::Chip;
 use chip::refusal::Refusal;
 
@@ -13,15 +13,17 @@ pub enum Either<A, B> {
 }
 
 pub impl<A: Chip, B: Chip> Chip for Either<A, B> as EitherChip {
-    ghost accepted = { by (A·Chip .accepted) (B·Chip .accepted) };
+    ghost accepted = { of-inside (A·Chip .accepted) (B·Chip .accepted) };
 
-    ghost settled = { by (A·Chip .settled) (B·Chip .settled) };
+    ghost settled = { of-inside (A·Chip .settled) (B·Chip .settled) };
 
-    ghost room = { by (A·Chip .room) (B·Chip .room) };
+    ghost room = { of-inside (A·Chip .room) (B·Chip .room) };
 
-    ghost intact = { by (A·Chip .intact) (B·Chip .intact) };
+    ghost early = { of-inside (A·Chip .early) (B·Chip .early) };
 
-    ghost left = { by (A·Chip .left) (B·Chip .left) };
+    ghost intact = { of-inside (A·Chip .intact) (B·Chip .intact) };
+
+    ghost left = { of-inside (A·Chip .left) (B·Chip .left) };
 
     ghost passes = { EitherPasses (A·Chip .passes) (B·Chip .passes) };
 

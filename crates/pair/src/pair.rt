@@ -4,10 +4,10 @@ ghost use mathlib.Core.Bool.{Bool, true};
 ghost use mathlib.Core.List.{List, [], _++_};
 ghost use mathlib.Core.Path.{_≡_};
 ghost use lib.ListN.{length};
-ghost use Rattle.std.specs.Results.{Cases};
-ghost use Rattle.std.specs.declared.option.Option.the-variants.{Some, None};
-ghost use Rattle.chip.specs.Calls.{Moments};
-ghost use Rattle.pair.specs.Pair.{pair-refusal, pair-words, pair-room, pair-settled, PairOrdered, PairPasses};
+ghost use Rattle.std.specs.Results.{isOk, Cases};
+ghost use Rattle.std.specs.declared.option.Option.the-variants.{Some};
+ghost use Rattle.chip.specs.Calls.{append-answer, append-leaves, Moments};
+ghost use Rattle.pair.specs.Pair.{pair-refusal, pair-words, pair-room, pair-settled, pair-early, PairMade, PairOrdered, PairPasses};
 use chip::chip::Chip;
 use chip::refusal::Refusal;
 use chip::words::BLANK;
@@ -25,10 +25,28 @@ pub struct Unpaired<A, B> {
     pub refusal: Refusal,
 }
 
+// The second chip's first word. It asks that the first is full and settled by now: nothing may be found on the second
+// before all of the first is.
+fn append_behind<A: Chip, B: Chip>(first: &A, second: &mut B, word: u32) -> Result<(), Refusal>
+    requires settled { ⌜ A·Chip .settled (now first) ≡ length (A·Chip .accepted (now first)) ⌝ }
+    requires full { ⌜ length (A·Chip .accepted (now first)) ≡ A·Chip .room (now first) ⌝ }
+    ensures answer { λ r. ⌜ r ≡ append-answer (B·Chip .room (now (second .entry))) (B·Chip .accepted (now (second .entry))) word ⌝ }
+    ensures words { λ _. ⌜ B·Chip .accepted (now (second .exit)) ≡ append-leaves (B·Chip .room (now (second .entry))) (B·Chip .accepted (now (second .entry))) word ⌝ }
+    ensures same_room { λ _. ⌜ B·Chip .room (now (second .exit)) ≡ B·Chip .room (now (second .entry)) ⌝ }
+    ensures free_settled { λ _. ⌜ B·Chip .settled (now (second .entry)) ≤ B·Chip .settled (now (second .exit)) ⌝ }
+    ensures settles_early { λ r. ⌜ (isOk r ≡ true → B·Chip .settled (now (second .exit)) ≡ B·Chip .early (now (second .entry))) ⌝ }
+    ensures cut_inside { λ _. ⌜ (B·Chip .intact (now (second .entry)) → B·Chip .intact (now (second .exit)) × Moments (B·Chip .passes) (now (second .entry)) (now (second .exit)) (B·Chip .accepted (now (second .exit))) (B·Chip .settled (now (second .entry)))) ⌝ }
+{
+    second.append(word)
+}
+
 impl<A: Chip, B: Chip> Pair<A, B> {
     // Settles the first chip and puts the second behind it; two that do not fit are handed back.
     pub fn new(mut first: A, second: B) -> Result<Pair<A, B>, Unpaired<A, B>>
-        ensures { λ r. ⌜ Cases r (λ p. (pair-refusal (A·Chip .room first) (B·Chip .room second) (length (A·Chip .accepted first)) (length (B·Chip .accepted second)) ≡ None) × (A·Chip .accepted (p .first) ≡ A·Chip .accepted first) × (A·Chip .settled (p .first) ≡ length (A·Chip .accepted first)) × (A·Chip .room (p .first) ≡ A·Chip .room first) × (p .second ≡ second) × (A·Chip .intact first → A·Chip .intact (p .first) × Moments (A·Chip .passes) first (p .first) (A·Chip .accepted first) (A·Chip .settled first))) (λ e. (pair-refusal (A·Chip .room first) (B·Chip .room second) (length (A·Chip .accepted first)) (length (B·Chip .accepted second)) ≡ Some (e .refusal)) × (e .first ≡ first) × (e .second ≡ second)) ⌝ }
+        ensures made { λ r. ⌜ Cases r (λ p. PairMade (A·Chip .accepted first) (B·Chip .accepted second) (A·Chip .room first) (B·Chip .room second) (B·Chip .settled second) (A·Chip .accepted (p .first)) (B·Chip .accepted (p .second)) (A·Chip .room (p .first)) (B·Chip .room (p .second)) (A·Chip .settled (p .first)) (B·Chip .settled (p .second))) (λ e. pair-refusal (A·Chip .room first) (B·Chip .room second) (length (A·Chip .accepted first)) (length (B·Chip .accepted second)) ≡ Some (e .refusal)) ⌝ }
+        ensures first_settled { λ r. ⌜ Cases r (λ p. (A·Chip .accepted (p .first) ≡ A·Chip .accepted first) × (A·Chip .settled (p .first) ≡ length (A·Chip .accepted first)) × (A·Chip .room (p .first) ≡ A·Chip .room first)) (λ e. e .first ≡ first) ⌝ }
+        ensures same_second { λ r. ⌜ Cases r (λ p. p .second ≡ second) (λ e. e .second ≡ second) ⌝ }
+        ensures cut_inside { λ r. ⌜ Cases r (λ p. A·Chip .intact first → A·Chip .intact (p .first) × Moments (A·Chip .passes) first (p .first) (A·Chip .accepted first) (A·Chip .settled first)) (λ _. Unit {0}) ⌝ }
     {
         if first.capacity() as usize + second.capacity() as usize > MOST {
             return Err(Unpaired {
@@ -75,6 +93,8 @@ pub impl<A: Chip, B: Chip> Chip for Pair<A, B> as PairChip {
 
     ghost room = { λ s. pair-room (A·Chip .room (s .first)) (B·Chip .room (s .second)) (length (A·Chip .accepted (s .first))) (length (B·Chip .accepted (s .second))) };
 
+    ghost early = { λ s. pair-early (A·Chip .room (s .first)) (length (A·Chip .accepted (s .first))) (length (B·Chip .accepted (s .second))) (A·Chip .settled (s .first)) (B·Chip .settled (s .second)) (A·Chip .early (s .first)) (B·Chip .early (s .second)) };
+
     ghost intact = { λ s. A·Chip .intact (s .first) × B·Chip .intact (s .second) × PairOrdered (A·Chip .room (s .first)) (B·Chip .room (s .second)) (length (A·Chip .accepted (s .first))) (length (B·Chip .accepted (s .second))) (A·Chip .settled (s .first)) };
 
     ghost left = { λ s. A·Chip .left (s .first) ++ B·Chip .left (s .second) };
@@ -119,8 +139,8 @@ pub impl<A: Chip, B: Chip> Chip for Pair<A, B> as PairChip {
         if self.first.count() < self.first.capacity() {
             return self.first.append(word);
         }
-        self.first.settle(); // Nothing of the second may be found before all of the first.
-        self.second.append(word)
+        self.first.settle(); // or a cut could leave words on the second and too few on the first
+        append_behind(&self.first, &mut self.second, word)
     }
 
     fn settle(&mut self) {

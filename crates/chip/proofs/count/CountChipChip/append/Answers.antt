@@ -32,6 +32,7 @@ returns g c =
       words = both .one-more ∙ sym (taken-leaves (count-room ws) (count-words ws) w word space);
       same-room = both .same-room;
       free-settled = omega (arith, length-counted ws, length-counted second, ap length (both .one-more), length-push (count-words ws) w);
+      settles-early = λ _. omega (arith, length-counted ws, length-counted second, ap length (both .one-more), length-push (count-words ws) w);
       refusal-changes-nothing = λ e. absurd (both-ways true e refl);
       cut-inside = λ sound. (
         both .second-sound sound,

@@ -27,4 +27,4 @@ returns g c =
     let n = c .first-blank-programmed .result in
     let counted = c .first-blank-programmed .ensures in
     let blank : all-blank (drop n ws) ≡ true = sym (c .is-blank-from .ensures) ∙ c .if-not-is-blank-from .left in
-    record { sound = mount-accepted ws n [] some few counted blank; chip = mount-made ws n _ some few counted blank }
+    record { sound = mount-accepted ws n [] some few counted blank; chip = (refl, mount-made ws n _ some few counted blank) }

@@ -10,7 +10,7 @@ use Rattle.chip.specs.Cut.{Gapless}
 use Rattle.chip.specs.Page.{page-room, page-words, page-found, none-blank, PageIntact, written, writes}
 use Rattle.chip.proofs.CallLaws.{full-answer, full-leaves, taken-answer, taken-leaves}
 use Rattle.chip.proofs.Writing.{length-written}
-use Rattle.chip.proofs.PageLaws.{length-words, intact-words, collected-words, collected-intact, filled-long, filled-unblank, filled-words, programmed-found, programmed-intact, programmed-sound, programmed-gapless, programmed-kept}
+use Rattle.chip.proofs.PageLaws.{length-words, intact-words, collected-words, collected-intact, early-waits, early-programs, filled-long, filled-unblank, filled-words, programmed-found, programmed-intact, programmed-sound, programmed-gapless, programmed-kept}
 use Rattle.chip.proofs.page.PageChipChip.append.Needs as need
 
 pub returns-then-self-room : need.returns-then-self-room
@@ -25,6 +25,7 @@ returns-then-self-room g c =
       words = sym (full-leaves (page-room ws) words (c .args .word) full);
       same-room = refl;
       free-settled = omega arith;
+      settles-early = λ e. absurd (both-ways false refl e);
       refusal-changes-nothing = λ _. refl;
       cut-inside = λ intact. (intact, ([], ([], g .M·Memory·met .rests (s .memory), tt, refl, refl), tt));
     }
@@ -44,6 +45,7 @@ returns-then-self-lt15 g c =
       words = collected-words ws (s .programmed) (s .page) (s .waiting) (c .args .word) inside room ∙ sym (taken-leaves (page-room ws) words (c .args .word) word space);
       same-room = refl;
       free-settled = omega arith;
+      settles-early = λ _. sym (early-waits ws (s .programmed) (s .waiting) (c .if-self-lt15 .taken));
       refusal-changes-nothing = λ e. absurd (both-ways true e refl);
       cut-inside = λ intact. (collected-intact ws (s .programmed) (s .page) (s .waiting) (c .args .word) inside room word intact, ([], ([], g .M·Memory·met .rests (s .memory), tt, refl, refl), tt));
     }
@@ -70,6 +72,7 @@ returns-else-self-lt15 g c =
       words = filled ∙ sym (taken-leaves (page-room ws) words (c .args .word) word space);
       same-room = same;
       free-settled = omega (arith, same);
+      settles-early = λ _. ap (min (n + 16)) same ∙ sym (early-programs ws n (s .waiting) (c .if-self-lt15 .left));
       refusal-changes-nothing = λ e. absurd (both-ways true e refl);
       cut-inside = λ intact.
           let fits : n + length more ≤ length ws = omega (arith, intact .fits) in

@@ -1,5 +1,5 @@
 use Prim.Native.Nat.{_+_, _<_, _≤_}
-use mathlib.Core.Bool.{true}
+use mathlib.Core.Bool.{false}
 use mathlib.Core.List.{[], _∷_, _++_}
 use mathlib.Core.Path.{_≡_, refl, sym, ap, _∙_, subst}
 use native.Mathlib.Omega.{arith}
@@ -11,7 +11,7 @@ use Rattle.chip.specs.Calls.{append-answer}
 use Rattle.pair.specs.Pair.{pair-words, pair-settled, pair-room, PairOrdered}
 use Rattle.pair.specs.Pair.PairPasses.{still}
 use Rattle.chip.proofs.CallLaws.{blank-answer, blank-leaves, full-answer, full-leaves, taken-answer, taken-leaves}
-use Rattle.pair.proofs.PairLaws.{length-pair, pair-whole, room-before, room-behind, grows-first, grows-second, kept-all, kept-none}
+use Rattle.pair.proofs.PairLaws.{length-pair, pair-whole, room-before, room-behind, early-behind, early-before, early-first-behind, grows-first, grows-second, kept-all, kept-none}
 use Rattle.pair.proofs.PairMoments.{Seen, seen-joined, seen-first, seen-second}
 use Rattle.pair.proofs.pair.PairChip.append.Needs as need
 
@@ -26,6 +26,7 @@ returns-then-word-eq-BLANK g c =
       words = sym (blank-leaves room (pair-words a b) (c .args .word) (c .if-word-eq-BLANK .taken));
       same-room = refl;
       free-settled = omega arith;
+      settles-early = λ e. absurd (both-ways false refl e);
       refusal-changes-nothing = λ _. refl;
       cut-inside = λ intact. (intact, ([], still, tt));
     }
@@ -42,6 +43,7 @@ returns-then-count-capacity g c =
       words = sym (full-leaves room (pair-words a b) (c .args .word) full);
       same-room = refl;
       free-settled = omega arith;
+      settles-early = λ e. absurd (both-ways false refl e);
       refusal-changes-nothing = λ _. refl;
       cut-inside = λ intact. (intact, ([], still, tt));
     }
@@ -74,6 +76,7 @@ returns-then-count-gt0 g c =
       words = ap (pair-words a) eb ∙ grows-second a b w (omega arith) ∙ sym (taken-leaves room (pair-words a b) w word space);
       same-room = room-behind (A .room x) (B .room y′) (length a) (length (B .accepted y′)) (omega arith) ∙ omega (arith, c .append .ensures .same-room) ∙ sym behind;
       free-settled = omega (arith, c .append .ensures .free-settled);
+      settles-early = λ e. ap (λ n. pair-settled (A .settled x) n) (c .append .ensures .settles-early e) ∙ sym (early-behind (A .room x) (length a) (length b) (A .settled x) (B .settled y) (A .early x) (B .early y) some);
       refusal-changes-nothing = λ e. absurd (both-ways (isOk (c .append .result)) e (ap isOk ok));
       cut-inside = λ intact.
           let second = c .append .ensures .cut-inside (intact .1) in
@@ -116,6 +119,7 @@ returns-then-count-capacity-2 g c =
       words = ap (λ l. pair-words l b) ea ∙ grows-first a b w none (omega arith) ∙ sym (taken-leaves room (pair-words a b) w word space);
       same-room = room-before (A .room x′) (B .room y) (length (A .accepted x′)) (length b) none ∙ omega (arith, call .ensures .same-room) ∙ sym before;
       free-settled = omega (arith, call .ensures .free-settled);
+      settles-early = λ e. ap (λ n. pair-settled n (B .settled y)) (call .ensures .settles-early e) ∙ sym (early-before (A .room x) (length a) (length b) (A .settled x) (B .settled y) (A .early x) (B .early y) none space-a);
       refusal-changes-nothing = λ e. absurd (both-ways (isOk (call .result)) e (ap isOk ok));
       cut-inside = λ intact.
           let first = call .ensures .cut-inside (intact .0) in
@@ -134,11 +138,11 @@ pub returns : need.returns
 returns g c =
     let A = g .A·Chip in
     let B = g .B·Chip in
-    let call = c .append-2 in
+    let call = c .append-behind in
     let x = c .args .self .now .first in
     let y = c .args .self .now .second in
     let x′ = c .settle .last .self in
-    let y′ = call .last .self in
+    let y′ = call .last .second in
     let w = c .args .word in
     let a = A .accepted x in
     let b = B .accepted y in
@@ -165,6 +169,7 @@ returns g c =
       words = ap (λ l. pair-words l (B .accepted y′)) ea ∙ ap (pair-words a) eb ∙ grows-second a b w (omega arith) ∙ sym (taken-leaves room (pair-words a b) w word space);
       same-room = room-behind (A .room x′) (B .room y′) (length (A .accepted x′)) (length (B .accepted y′)) (omega arith) ∙ omega arith ∙ sym before;
       free-settled = omega (arith, call .ensures .free-settled, c .settle .ensures .all-settled, fits-a .0);
+      settles-early = λ e. ap (λ n. pair-settled n (B .settled y′)) (c .settle .ensures .all-settled) ∙ ap (λ n. pair-settled (length a) n) (call .ensures .settles-early e) ∙ sym (early-first-behind (A .room x) (length a) (length b) (A .settled x) (B .settled y) (A .early x) (B .early y) none (omega arith));
       refusal-changes-nothing = λ e. absurd (both-ways (isOk (call .result)) e (ap isOk ok));
       cut-inside = λ intact.
           let first = c .settle .ensures .cut-inside (intact .0) in
