@@ -7,8 +7,8 @@
 //     chip.settle();
 //     let first = chip.read_word(0)?;
 //
-// `memory` has the trait of a word memory and `ram` one in RAM; `chip` has the trait of a chip with its laws; `page`,
-// `count`, `pair` and `either` implement it. `refusal` has the refusals and their numbers.
+// `memory` has the trait of a word memory and `ram` one in RAM; `chip` has the trait of a chip with its laws; `page` and
+// `count` implement it. `refusal` has the refusals and their numbers, `words` the numbers that every chip shares.
 pub mod chip;
 pub mod count;
 pub mod memory;

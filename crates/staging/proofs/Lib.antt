@@ -1,0 +1,3 @@
+pub mod BelowLaws
+pub mod RewindLaws
+pub mod SpreadLaws
