@@ -1,12 +1,13 @@
 // A word memory in RAM that notes what each store replaced, so that it can show what it held after any of them.
 ghost use Prim.Native.Nat.{ℕ};
-ghost use mathlib.Core.List.{[]};
+ghost use mathlib.Core.Bool.{false};
+ghost use mathlib.Core.List.{[], _∷_, _++_};
 ghost use mathlib.Core.Path.{_≡_};
 ghost use lib.ListN.{length};
 ghost use Rattle.std.specs.Of.Vec.{vec-items};
 ghost use Rattle.std.specs.Results.{Cases};
 ghost use Rattle.chip.specs.Stores.{Stores};
-ghost use Rattle.staging.specs.Rewind.{rewound};
+ghost use Rattle.staging.specs.Rewind.{note-of, rewound, Noted};
 ghost use Rattle.staging.specs.declared.fault.StageFault.the-variants.{Memory as NoMemory};
 use crate::fault::StageFault;
 use crate::fault::StageFaultFromAlloc;
@@ -53,6 +54,15 @@ impl Traced {
         self.notes.len()
     }
 
+    fn note(&mut self, place: usize, before: u32)
+        ensures words { λ _. ⌜ now (self .exit) .words ≡ now (self .entry) .words ⌝ }
+        ensures noted { λ _. ⌜ (now (self .exit) .lost ≡ false → (now (self .entry) .lost ≡ false) × (vec-items (now (self .exit) .notes) ≡ vec-items (now (self .entry) .notes) ++ note-of place before ∷ [])) ⌝ }
+    {
+        if self.notes.push(Note { place, before }).is_err() {
+            self.lost = true;
+        }
+    }
+
     // The words as they stood after the first `stores` of the noted stores.
     pub fn after(&self, heap: Global, stores: usize) -> Result<Vec<u32>, StageFault>
         ensures { λ r. ⌜ Cases r (λ v. vec-items v ≡ rewound (vec-items (now (self .entry) .words)) (vec-items (now (self .entry) .notes)) stores) (λ e. e ≡ NoMemory) ⌝ }
@@ -76,7 +86,8 @@ impl Traced {
 pub impl Memory for Traced as TracedMemory {
     ghost holds = { λ m. vec-items (m .words) };
 
-    ghost through = { λ a xs b. Stores (vec-items (a .words)) xs (vec-items (b .words)) };
+    // Unless a note was lost, the notes tell every moment.
+    ghost through = { λ a xs b. Stores (vec-items (a .words)) xs (vec-items (b .words)) × (b .lost ≡ false → (a .lost ≡ false) × Noted (vec-items (a .words)) (vec-items (a .notes)) xs (vec-items (b .words)) (vec-items (b .notes))) };
 
     fn len(&self) -> usize {
         self.words.len()
@@ -91,11 +102,9 @@ pub impl Memory for Traced as TracedMemory {
     }
 
     fn store(&mut self, place: usize, word: u32) {
+        let before = self.load(place);
+        self.note(place, before);
         if place < self.words.len() {
-            let before = self.words[place];
-            if self.notes.push(Note { place, before }).is_err() {
-                self.lost = true;
-            }
             self.words[place] = word;
         }
     }
@@ -114,7 +123,7 @@ mod tests {
         memory.store(1, 5);
         memory.store(0, 6);
         memory.store(2, 1);
-        check_eq(memory.stores(), 2)?;
+        check_eq(memory.stores(), 3)?;
         check_eq(memory.after(heap, 1)?, vec![in heap; 7, 5]?)
     }
 }

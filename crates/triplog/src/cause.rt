@@ -81,10 +81,13 @@ pub impl fmt::Display for Cause as CauseDisplay {
             Cause::TakenName(name) => write!(f, "a chip is named '{name}' already"),
             Cause::PairedWithItself(name) => write!(f, "'{name}' cannot be paired with itself"),
             Cause::TooDeep => write!(f, "a pair of pairs cannot be paired again"),
-            Cause::FewStores(stores) => write!(f, "the call makes {stores} stores"),
+            Cause::FewStores(stores) => write!(
+                f,
+                "that is more than the stores of the call, {stores}"
+            ),
             Cause::FileCount(files, memories) => write!(
                 f,
-                "{files} files are named, and the chip has {memories} memories"
+                "files named: {files}, memories of the chip: {memories}"
             ),
             Cause::Unread(file, error) => write!(f, "'{file}' cannot be read: {error}"),
             Cause::Unwritten(file, error) => write!(f, "'{file}' cannot be written: {error}"),
