@@ -32,14 +32,19 @@ pub trait Chip: Sized {
     // one for each step.
     ghost passes: { Self → List (List ℕ) → Self → Type 0 };
 
+    // Of every state whatever.
     law bounded: { (s : Self) → (settled s ≤ length (accepted s)) × (length (accepted s) ≤ room s) × (room s ≤ 1048576) };
 
+    // The cut rule between two calls.
     law keeps: { (s : Self) → intact s → Kept (accepted s) (settled s) (left s) };
 
+    // No step passes no moment.
     law rests: { (s : Self) → passes s [] s };
 
+    // Moments join.
     law joins: { (a b c : Self) (xs ys : List (List ℕ)) → passes a xs b → passes b ys c → passes a (xs ++ ys) c };
 
+    // From one moment to the next a mount finds the same words or one more, so no moment can be left out.
     law gapless: { (a b : Self) (xs : List (List ℕ)) → passes a xs b → Gapless (left a) xs (left b) };
 
     fn capacity(&self) -> u32

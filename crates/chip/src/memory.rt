@@ -16,6 +16,7 @@ pub trait Memory {
 
     law joins: { (a b c : Self) (xs ys : List (List ℕ)) → through a xs b → through b ys c → through a (xs ++ ys) c };
 
+    // From each moment to the next one word was stored, and the last moment is what it holds at the end.
     law single: { (a b : Self) (xs : List (List ℕ)) → through a xs b → Stores (holds a) xs (holds b) };
 
     fn len(&self) -> usize
