@@ -3,11 +3,11 @@ use Rattle.std.specs.Prelude.{◌≡◌, ℕ, List, [], ◌∷◌, Err}
 use Rattle.work.specs.declared.fault.BodyFault.TheVariants.{Length, Operation, NumberZero, UnusedField, NoSuchCell, CellOrder}
 use Rattle.work.specs.Values.{values}
 use Rattle.commands.specs.Commands.{commands}
-use Rattle.log.specs.declared.fault.Cause.{Cause}
-use Rattle.log.specs.declared.fault.Cause.TheVariants.{UnknownKind, NoHead, BadHead, NoEntry, BadEntry, OwnEntry, NoPayload, Body}
-use Rattle.log.specs.declared.fault.Stop.TheVariants.{RunsOut}
-use Rattle.log.specs.declared.record.Origin.{Origin}
-use Rattle.log.specs.Reading.{record_read, fault_at}
+use Rattle.logs.specs.declared.fault.Cause.{Cause}
+use Rattle.logs.specs.declared.fault.Cause.TheVariants.{UnknownKind, NoHead, BadHead, NoEntry, BadEntry, OwnEntry, NoPayload, Body}
+use Rattle.logs.specs.declared.fault.Stop.TheVariants.{RunsOut}
+use Rattle.logs.specs.declared.record.Origin.{Origin}
+use Rattle.logs.specs.Reading.{record_read, fault_at}
 
 -- the second of two chips, a record that starts at place 3
 abbrev pub there : Origin

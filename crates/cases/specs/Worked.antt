@@ -5,9 +5,9 @@
 use Rattle.std.specs.Prelude.{◌≡◌, ℕ, true, false, List, [], ◌∷◌, replicate, Ok, slice_index_or, slice_set}
 use Rattle.vector.specs.Vectors.{joined, reached_by, zeros}
 use Rattle.commands.specs.Commands.{commands, payloads_of, run_each}
-use Rattle.log.specs.declared.record.Origin.{Origin}
-use Rattle.log.specs.Words.{record_words}
-use Rattle.log.specs.Reading.{record_read}
+use Rattle.logs.specs.declared.record.Origin.{Origin}
+use Rattle.logs.specs.Words.{record_words}
+use Rattle.logs.specs.Reading.{record_read}
 
 abbrev pub add_to : ℕ → ℕ → ℕ → List ℕ
 add_to cell amount number =

@@ -1,9 +1,9 @@
 // Tests at the edges of each field and limit.
 use crate::clears::Clears;
 use commands::commands::{Command, Commands};
-use log::reader::read;
-use log::record::Origin;
-use log::writer::write;
+use logs::reader::read;
+use logs::record::Origin;
+use logs::writer::write;
 use std::test::Fail;
 use work::fault::BodyFault;
 use work::kind::Work;

@@ -1,4 +1,6 @@
 // Worked cases, an example of every cause, a third kind of work, and tests at the edges.
+#![tactic(auto)]
+
 ghost use Rattle.cases.specs.Causes.{EveryCause, EveryBodyCause};
 ghost use Rattle.cases.specs.Worked.{WorkedCases};
 

@@ -9,6 +9,8 @@
 //
 // `memory` has the trait of a word memory and `ram` one in RAM; `chip` has the trait of a chip with its laws; `page` and
 // `count` implement it. `refusal` has the refusals and their numbers, `words` the numbers that every chip shares.
+#![tactic(auto)]
+
 pub mod chip;
 pub mod count;
 pub mod memory;

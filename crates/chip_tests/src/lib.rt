@@ -1,4 +1,6 @@
 // Examples of chips, as tests. A crate of their own, since a crate with tests is proved twice.
+#![tactic(auto)]
+
 #[cfg(test)]
 mod tests {
     use chip::chip::Chip;

@@ -2,4 +2,6 @@
 //
 //     Commands.judge(&body, 256)?;
 //     Commands.run(&body, &mut table);
+#![tactic(auto)]
+
 pub mod commands;

@@ -3,13 +3,13 @@ use Rattle.std.proofs.Common.{◌≡◌, ℕ, ◌+◌, ◌-◌, ◌<◌, List, [
 use Rattle.std.proofs.lemmas.List.{take_rest}
 use Rattle.vector.specs.Vectors.{zeros}
 use Rattle.work.specs.Kinds.{Kind}
-use Rattle.log.specs.Reading.{Found, and_then, head_of, next_part, placed_at, body_fault, entries_read, payloads_read, parts_read, record_read, answered, read_answer}
-use Rattle.log.specs.declared.fault.RecordFault.{RecordFault}
-use Rattle.log.specs.declared.fault.Stop.{Stop}
-use Rattle.log.specs.declared.fault.Stop.TheVariants.{RunsOut, Fault}
-use Rattle.log.specs.declared.record.Head.{Head}
-use Rattle.log.specs.declared.record.Origin.{Origin}
-use Rattle.log.specs.declared.record.Record.{Record}
+use Rattle.logs.specs.Reading.{Found, and_then, head_of, next_part, placed_at, body_fault, entries_read, payloads_read, parts_read, record_read, answered, read_answer}
+use Rattle.logs.specs.declared.fault.RecordFault.{RecordFault}
+use Rattle.logs.specs.declared.fault.Stop.{Stop}
+use Rattle.logs.specs.declared.fault.Stop.TheVariants.{RunsOut, Fault}
+use Rattle.logs.specs.declared.record.Head.{Head}
+use Rattle.logs.specs.declared.record.Origin.{Origin}
+use Rattle.logs.specs.declared.record.Record.{Record}
 use Rattle.listing.specs.Kinds.{chosen_kind}
 use Rattle.listing.specs.Listings.{Listed, Stands, at_start, found}
 use Rattle.listing.specs.Listings.Listed.{one_more}

@@ -4,10 +4,10 @@
 --   Stands reading ws start r   the record r starts there
 --   Listed reading ws start records ending    from this start on the log has these records, and they end so
 use Rattle.std.specs.Prelude.{◌≡◌, ℕ, ◌^◌, ◌<◌, ◌≤◌, List, [], ◌∷◌, length, drop, Some, None, Ok, Err, Option, Result}
-use Rattle.log.specs.Reading.{read_answer}
-use Rattle.log.specs.declared.fault.RecordFault.{RecordFault}
-use Rattle.log.specs.declared.record.Origin.{Origin}
-use Rattle.log.specs.declared.record.Record.{Record}
+use Rattle.logs.specs.Reading.{read_answer}
+use Rattle.logs.specs.declared.fault.RecordFault.{RecordFault}
+use Rattle.logs.specs.declared.record.Origin.{Origin}
+use Rattle.logs.specs.declared.record.Record.{Record}
 use Rattle.listing.specs.Kinds.{chosen_kind}
 use Rattle.listing.specs.declared.records.Reading.{Reading}
 use Rattle.listing.specs.declared.records.Ending.{Ending}

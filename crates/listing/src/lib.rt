@@ -5,6 +5,8 @@
 //
 // `chosen` is a kind of work that is chosen when the program runs, `records` has the records of a log one behind the other,
 // `judgement` what a kind of work says of a body alone, and `field` which field of a command is too wide.
+#![tactic(auto)]
+
 pub mod chosen;
 pub mod field;
 pub mod judgement;

@@ -3,9 +3,9 @@ ghost use Rattle.std.specs.Prelude.{[], IfOk, MatchResult};
 ghost use Rattle.listing.specs.Listings.{Listed, Stands};
 
 use crate::chosen::Chosen;
-use log::fault::RecordFault;
-use log::reader::read;
-use log::record::{Origin, Record};
+use logs::fault::RecordFault;
+use logs::reader::read;
+use logs::record::{Origin, Record};
 use std::alloc::{AllocError, Global};
 
 // How a log is read: its kind of work, the number of cells, and its chip among the chips of a unit.

@@ -9,6 +9,8 @@
 //     let found = chip.remounted(heap, counts.as_slice())?;
 //
 // and `found` is the chip that a mount makes of what the memories held after the third store of that Append.
+#![tactic(auto)]
+
 pub mod fault;
 pub mod moment;
 pub mod staged;

@@ -1,6 +1,6 @@
 // What the calls of a script answer, and how it is printed.
 use chip::refusal::Refusal;
-use log::writer::Unwritable;
+use logs::writer::Unwritable;
 use std::fmt;
 use wording::show::InWords;
 

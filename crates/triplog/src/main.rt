@@ -1,4 +1,6 @@
 // Runs a script of calls of chips and records, from a file or from standard input, and prints an answer for each.
+#![tactic(auto)]
+
 mod answer;
 mod cause;
 mod held;

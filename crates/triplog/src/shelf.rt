@@ -7,7 +7,7 @@ use crate::script::{Call, Command, Kind, Source};
 use chip::words::{BLANK, MOST};
 use listing::judgement::Judgement;
 use listing::records::{Listing, Reading};
-use log::writer::write;
+use logs::writer::write;
 use staging::fault::StageFault;
 use staging::moment;
 use staging::traced::Traced;

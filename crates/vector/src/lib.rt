@@ -4,6 +4,8 @@
 //     if reached(both, ends) { .. }
 //
 // `format` has the numbers of the format, `word` a word's kind and payload, `vector` the vectors.
+#![tactic(auto)]
+
 pub mod format;
 pub mod vector;
 pub mod word;

@@ -2,7 +2,7 @@
 use crate::show::{BodyText, InWords, VectorText};
 use listing::judgement::Judgement;
 use listing::records::{Listing, Reading};
-use log::record::Record;
+use logs::record::Record;
 use std::alloc::{AllocError, Global};
 use std::fmt;
 use work::name::Name;

@@ -1,5 +1,5 @@
 use Rattle.std.proofs.Common.{◌-◌, List, ◌++◌, length, vec_items}
-use Rattle.log.specs.declared.record.Record.{Record}
+use Rattle.logs.specs.declared.record.Record.{Record}
 use Rattle.listing.specs.Listings.{Listed}
 use Rattle.listing.specs.declared.records.Ending.{Ending}
 use Rattle.listing.proofs.records.Listing.of.Given as goal
