@@ -9,4 +9,4 @@ returns c =
     let word : c.entries.result + 16 * length c.args.body.now ≡ head = ap (λ n. n + 16 * length c.args.body.now) c.entries.ensures.count in
     let first : c.push.new.self ≡ in_words (head ∷ []) =
     pushed_words (in_words []) c.push.new.self [] head refl (c.push.ensures.words ∙ ap (set (replicate 25 0) 0) word) c.push.ensures.count (omega arith) in
-    c.push-payloads.ensures (head ∷ entry_words 0 c.args.vector) (c.push-entries.ensures.words (head ∷ []) first)
+    c.push_payloads.ensures (head ∷ entry_words 0 c.args.vector) (c.push_entries.ensures.words (head ∷ []) first)

@@ -12,11 +12,11 @@ loop-i-preserved c =
     let left = c.loop-i.left in
     let old = c.loop-i.counts.items in
     let k = c.min-here.result in
-    let here : k ≡ min (get_or a i 0 - get_or b i 0) left = c.min-here.ensures ∙ ap (λ x. min x left) c.saturating-sub.ensures in
+    let here : k ≡ min (get_or a i 0 - get_or b i 0) left = c.min-here.ensures ∙ ap (λ x. min x left) c.saturating_sub.ensures in
     let within_b : i < length b = omega (arith, c.min-i-end.ensures, c.loop-i-test.true) in
     let within_a : i < length a = omega (arith, c.min-i-end.ensures, c.loop-i-test.true) in
     let rest = counts_after (drop (i + 1) b) (drop (i + 1) a) (left - k) in
-    ap (λ l. l ++ rest) c.in-ok-push.ensures.items ∙ append_assoc old ((get_or b i 0 + k) ∷ []) rest ∙ ap (λ n. old ++ ((get_or b i 0 + n) ∷ counts_after (drop (i + 1) b) (drop (i + 1) a) (left - n))) here ∙ ap (λ l. old ++ l) (sym (counts_more b a i left within_b within_a)) ∙ c.loop-i.invariant
+    ap (λ l. l ++ rest) c.in_ok-push.ensures.items ∙ append_assoc old ((get_or b i 0 + k) ∷ []) rest ∙ ap (λ n. old ++ ((get_or b i 0 + n) ∷ counts_after (drop (i + 1) b) (drop (i + 1) a) (left - n))) here ∙ ap (λ l. old ++ l) (sym (counts_more b a i left within_b within_a)) ∙ c.loop-i.invariant
 
 pub returns : goal.returns
 returns c =

@@ -10,7 +10,7 @@ loop-i-preserved c =
     let within_b : i < length b = omega (arith, c.min-i-end.ensures, c.loop-i-test.true) in
     let within_a : i < length a = omega (arith, c.min-i-end.ensures, c.loop-i-test.true) in
     let more = made_more b a i within_b within_a in
-    (omega (arith, c.saturating-add-sum.ensures, c.saturating-sub.ensures, more, c.loop-i.invariant.0), omega (arith, c.saturating-add-sum.type-inv))
+    (omega (arith, c.saturating_add-sum.ensures, c.saturating_sub.ensures, more, c.loop-i.invariant.0), omega (arith, c.saturating_add-sum.type_inv))
 
 pub returns : goal.returns
 returns c =

@@ -10,4 +10,4 @@ loop-record-smaller c =
 
 pub loop-record-preserved : goal.loop-record-preserved
 loop-record-preserved c =
-    listed_on c.args.reading c.args.words.now c.loop-record.start (vec_items c.loop-record.records) (vec_items c.push.new.self) c.in-Ok.record c.in-ok-push.ensures.items c.in-Ok.ensures c.loop-record.invariant
+    listed_on c.args.reading c.args.words.now c.loop-record.start (vec_items c.loop-record.records) (vec_items c.push.new.self) c.in-Ok.record c.in_ok-push-in-Ok.ensures.items c.in-Ok.ensures c.loop-record.invariant

@@ -6,8 +6,8 @@ use Rattle.listing.proofs.records.Reading.record_at.Goals as goal
 pub returns-then-start-words : goal.returns-then-start-words
 returns-then-start-words c = all_read c.if-start-words.true
 
-pub returns-in-default : goal.returns-in-default
-returns-in-default c = too_far (omega arith) (omega (arith, c.in-default.ensures))
+pub returns-in_default : goal.returns-in_default
+returns-in_default c = too_far (omega arith) (omega (arith, c.in_default.ensures))
 
 pub returns-in-Ok-Some : goal.returns-in-Ok-Some
 returns-in-Ok-Some c =

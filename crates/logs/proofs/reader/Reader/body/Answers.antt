@@ -13,19 +13,19 @@ loop-i-init c =
     let s = c.args.self.now in
     (refl, refl, refl, refl, sym (add-zero s.at), ap (λ n. payloads_read s.origin (s.origin.start + s.at) [] n (drop s.at s.words.now)) (sub-zero c.args.count))
 
-pub returns-in-err-payloads : goal.returns-in-err-payloads
-returns-in-err-payloads c =
-    let p = err_from_is_err_and c.from-residual.result c.from-residual.ensures.1 in
+pub returns-in_err-payloads : goal.returns-in_err-payloads
+returns-in_err-payloads c =
+    let p = err_from_is_err_and c.from_residual.result c.from_residual.ensures.1 in
     let s = c.args.self.now in
     let l = c.loop-i in
     let words = l.invariant.2 in
     let origin = l.invariant.3 in
-    let stop = c.in-err-payloads.field-0.0 in
-    let answer : next_part s.origin s.words.now l.self.at payload_in ≡ Err stop = rw (words, origin) at (sym c.in-err-payloads.ensures.answer) in
+    let stop = c.in_err-payloads.field-0.0 in
+    let answer : next_part s.origin s.words.now l.self.at payload_in ≡ Err stop = rw (words, origin) at (sym c.in_err-payloads.ensures.answer) in
     let stopped = payloads_stop s.origin s.words.now l.self.at (take l.i l.payloads) c.args.count l.i stop c.loop-i-test.true answer in
     record {
       answer = p.1 ∙ ap (λ x. Err x) p.2 ∙ ap (λ r. and_then r (λ b. Ok (in_body b))) (sym stopped ∙ l.invariant.5);
-      at = λ ok. absurd (both_ways (is_ok c.from-residual.result) (ap is_ok p.1) ok);
+      at = λ ok. absurd (both_ways (is_ok c.from_residual.result) (ap is_ok p.1) ok);
       same = (c.payload.ensures.same.0 ∙ words, c.payload.ensures.same.1 ∙ origin);
     }
 
@@ -35,9 +35,9 @@ loop-i-preserved c =
     let l = c.loop-i in
     let words = l.invariant.2 in
     let origin = l.invariant.3 in
-    let p = c.in-ok-payloads.field-0 in
-    let answer : next_part s.origin s.words.now l.self.at payload_in ≡ Ok p = rw (words, origin) at (sym c.in-ok-payloads.ensures.answer) in
-    let at : c.payload.new.self.at ≡ l.self.at + 1 = c.in-ok-payloads.ensures.at in
+    let p = c.in_ok-payloads.field-0 in
+    let answer : next_part s.origin s.words.now l.self.at payload_in ≡ Ok p = rw (words, origin) at (sym c.in_ok-payloads.ensures.answer) in
+    let at : c.payload.new.self.at ≡ l.self.at + 1 = c.in_ok-payloads.ensures.at in
     let room : l.i < 16 = omega (arith, c.requires, c.loop-i-test.true) in
     let more : take (l.i + 1) (set l.payloads l.i p) ≡ take l.i l.payloads ++ p ∷ [] = take_more_set l.payloads l.i p (omega (arith, l.invariant.0)) in
     let left = c.args.count - (l.i + 1) in (

@@ -13,17 +13,17 @@ loop-init c =
     let s = c.args.self.now in
     (refl, refl, refl, sym (add-zero s.at), ap (λ n. entries_read s.origin (s.origin.start + s.at) 0 zeros n (drop s.at s.words.now)) (sub-zero c.args.count))
 
-pub returns-in-err-entry : goal.returns-in-err-entry
-returns-in-err-entry c =
-    let p = err_from_is_err_and c.from-residual.result c.from-residual.ensures.1 in
+pub returns-in_err-entry : goal.returns-in_err-entry
+returns-in_err-entry c =
+    let p = err_from_is_err_and c.from_residual.result c.from_residual.ensures.1 in
     let s = c.args.self.now in
     let words = c.loop.invariant.1 in
     let origin = c.loop.invariant.2 in
-    let answer : next_part s.origin s.words.now c.loop.self.at (entry_of s.origin c.loop.low) ≡ Err c.in-err-entry.field-0.0 = rw (words, origin) at (sym c.in-err-entry.ensures.answer) in
-    let stopped = entries_stop s.origin s.words.now c.loop.self.at c.loop.low c.loop.vector c.args.count c.loop.counter c.in-err-entry.field-0.0 c.loop-test.true answer in
+    let answer : next_part s.origin s.words.now c.loop.self.at (entry_of s.origin c.loop.low) ≡ Err c.in_err-entry.field-0.0 = rw (words, origin) at (sym c.in_err-entry.ensures.answer) in
+    let stopped = entries_stop s.origin s.words.now c.loop.self.at c.loop.low c.loop.vector c.args.count c.loop.counter c.in_err-entry.field-0.0 c.loop-test.true answer in
     record {
       answer = p.1 ∙ ap (λ x. Err x) p.2 ∙ sym stopped ∙ c.loop.invariant.4;
-      at = λ ok. absurd (both_ways (is_ok c.from-residual.result) (ap is_ok p.1) ok);
+      at = λ ok. absurd (both_ways (is_ok c.from_residual.result) (ap is_ok p.1) ok);
       same = (c.entry.ensures.same.0 ∙ words, c.entry.ensures.same.1 ∙ origin);
     }
 
@@ -32,9 +32,9 @@ loop-preserved c =
     let s = c.args.self.now in
     let words = c.loop.invariant.1 in
     let origin = c.loop.invariant.2 in
-    let e = c.in-ok-entry.entry in
-    let answer : next_part s.origin s.words.now c.loop.self.at (entry_of s.origin c.loop.low) ≡ Ok e = rw (words, origin) at (sym c.in-ok-entry.ensures.answer) in
-    let at : c.entry.new.self.at ≡ c.loop.self.at + 1 = c.in-ok-entry.ensures.at in (
+    let e = c.in_ok-entry.entry in
+    let answer : next_part s.origin s.words.now c.loop.self.at (entry_of s.origin c.loop.low) ≡ Ok e = rw (words, origin) at (sym c.in_ok-entry.ensures.answer) in
+    let at : c.entry.new.self.at ≡ c.loop.self.at + 1 = c.in_ok-entry.ensures.at in (
       length-set c.loop.vector e.chip e.place ∙ c.loop.invariant.0,
       c.entry.ensures.same.0 ∙ words,
       c.entry.ensures.same.1 ∙ origin,

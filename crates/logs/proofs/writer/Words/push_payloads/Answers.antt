@@ -4,8 +4,8 @@ use Rattle.logs.specs.Words.{body_word, in_words}
 use Rattle.logs.proofs.WriterLaws.{payload_fits, pushed_words}
 use Rattle.logs.proofs.writer.Words.push_payloads.Goals as goal
 
-pub overflow-add-payload : goal.overflow-add-payload
-overflow-add-payload c = omega (arith, payload_fits c.args.body.now c.loop-payload.payload-index c.requires.payloads c.loop-payload-test.true)
+pub overflow_add-payload : goal.overflow_add-payload
+overflow_add-payload c = omega (arith, payload_fits c.args.body.now c.loop-payload.payload-index c.requires.payloads c.loop-payload-test.true)
 
 pub loop-payload-preserved : goal.loop-payload-preserved
 loop-payload-preserved c =

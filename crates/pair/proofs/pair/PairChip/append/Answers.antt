@@ -132,7 +132,7 @@ pub returns : goal.returns
 returns g c =
     let A = g.A.Chip in
     let B = g.B.Chip in
-    let call = c.append-behind in
+    let call = c.append_behind in
     let x = c.args.self.now.first in
     let y = c.args.self.now.second in
     let x' = c.settle.new.self in

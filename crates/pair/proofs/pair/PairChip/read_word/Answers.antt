@@ -16,11 +16,11 @@ returns-then-place-first g c =
     let a = g.A.Chip.accepted c.args.self.now.first in
     let b = g.B.Chip.accepted c.args.self.now.second in
     let there : c.args.place < min (length a + length b) 1048576 = omega (arith, c.count.ensures, length_pair a b) in
-    c.read-word.ensures ∙ read_first a b c.args.place there (omega (arith, c.count-first.ensures))
+    c.read_word.ensures ∙ read_first a b c.args.place there (omega (arith, c.count-first.ensures))
 
 pub returns-else-place-first : goal.returns-else-place-first
 returns-else-place-first g c =
     let a = g.A.Chip.accepted c.args.self.now.first in
     let b = g.B.Chip.accepted c.args.self.now.second in
     let there : c.args.place < min (length a + length b) 1048576 = omega (arith, c.count.ensures, length_pair a b) in
-    c.read-word-else-place-first.ensures ∙ ap (λ k. read_answer b (c.args.place - k)) c.count-first.ensures ∙ read_second a b c.args.place there (omega (arith, c.count-first.ensures))
+    c.read_word-else-place-first.ensures ∙ ap (λ k. read_answer b (c.args.place - k)) c.count-first.ensures ∙ read_second a b c.args.place there (omega (arith, c.count-first.ensures))

@@ -8,4 +8,4 @@ returns g c =
     let A = g.A.Staged in
     let B = g.B.Staged in
     let s = c.args.self.now in
-    both_added noted_stores c.args.out.now.items c.note-stores.new.out.items c.note-stores-2.new.out.items (A.below s.first) (B.below s.second) (A.below c.first.result.now) (B.below c.second.result.now) (ap A.below c.first.ensures) (ap B.below c.second.ensures) c.in-ok-note-stores.ensures c.in-ok-note-stores-2.ensures
+    both_added noted_stores c.args.out.now.items c.note_stores.new.out.items c.note_stores-2.new.out.items (A.below s.first) (B.below s.second) (A.below c.first.result.now) (B.below c.second.result.now) (ap A.below c.first.ensures) (ap B.below c.second.ensures) c.in_ok-note_stores.ensures c.in_ok-note_stores-2.ensures

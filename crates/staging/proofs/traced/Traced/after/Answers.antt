@@ -8,7 +8,7 @@ pub loop-left-init : goal.loop-left-init
 loop-left-init c =
     let t = c.args.self.now in
     let long : length t.notes.items ≤ c.len-left.result = omega (arith, t.notes.ok.0, c.len-left.ensures) in
-    (omega (arith, t.notes.ok.0, c.len-left.ensures), c.in-ok-words.ensures.items ∙ c.as-slice.ensures.value ∙ sym (none_undone t.words.items t.notes.items c.len-left.result long), omega (arith, long))
+    (omega (arith, t.notes.ok.0, c.len-left.ensures), c.in_ok-words.ensures.items ∙ c.as_slice.ensures.value ∙ sym (none_undone t.words.items t.notes.items c.len-left.result long), omega (arith, long))
 
 pub loop-left-preserved-then-note-len : goal.loop-left-preserved-then-note-len
 loop-left-preserved-then-note-len c =
