@@ -12,6 +12,7 @@ use cause::{Cause, Stop};
 use held::{Joins, Two};
 use shelf::Shelf;
 use std::io::{BufRead, BufReader};
+use std::process::ExitCode;
 use std::{env, fs};
 
 fn run_line<C: Joins>(
@@ -53,8 +54,12 @@ fn run_file<C: Joins>(rt: &HostRuntime, shelf: &mut Shelf<C>, file: &str) -> Res
 }
 
 fn run_input<C: Joins>(rt: &HostRuntime, shelf: &mut Shelf<C>) -> Result<(), Stop> {
+    let input = match BufReader::new(rt.alloc(), rt.stdin()) {
+        Ok(input) => input,
+        Err(error) => return Err(Stop::outside(Cause::Input(error))),
+    };
     let mut number = 0u64;
-    for line in BufReader::new(rt.stdin()).lines(rt.alloc()) {
+    for line in input.lines(rt.alloc()) {
         number = number.saturating_add(1);
         match line {
             Ok(line) => run_line(rt, shelf, number, line.as_str())?,
@@ -83,13 +88,13 @@ fn run_script<C: Joins>(rt: &HostRuntime) -> Result<(), Stop> {
     }
 }
 
-fn main(rt: HostRuntime) -> Result<(), Stop> {
+fn main(rt: HostRuntime) -> ExitCode {
     match run_script::<Two>(&rt) {
-        Ok(()) => Ok(()),
+        Ok(()) => ExitCode::SUCCESS,
         Err(stop) => {
             // Where standard error cannot be written, the exit status still says it.
             let _ = eprintln!(rt; "triplog: {stop}");
-            Err(stop)
+            ExitCode::FAILURE
         }
     }
 }
