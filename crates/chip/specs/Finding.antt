@@ -1,12 +1,12 @@
 -- What a mount of a page chip finds.
 use Rattle.std.specs.Prelude.{◌≡◌, ℕ, suc, ◌+◌, ◌<◌, ◌≤◌, Bool, true, false, cond, not, ◌&&◌, List, [], ◌∷◌, ◌++◌, map, length, get_or, take, drop, set, ◌==◌, ◌≢◌, slice_index_or, slice_set, refl}
-use Rattle.std.proofs.Common.{sym, ap, subst, ◌∙◌, arith, inl, inr, add-one}
+use Rattle.std.proofs.Common.{sym, ap, ◌∙◌, arith, inr, add-one}
 use Rattle.std.specs.List.{AllByRecursion as All}
 use Rattle.std.proofs.ByRecursion.{All-weaker}
-use Rattle.std.proofs.lemmas.List.{append-nil, append_assoc, length-append, length-set, length_push, take_at, at_drop_more}
+use Rattle.std.proofs.lemmas.List.{append-nil, append_assoc, length-set, length_push, take_at, at_drop_more}
 use Rattle.std.proofs.lemmas.Bool.{and_parts, and_from, not-true, eq-eqb, ne_eqb}
 use Rattle.chip.specs.Cut.{Kept, Gapless}
-use Rattle.chip.specs.Page.{page_found, all_blank, none_blank, blank_behind, page_sound, written, writes}
+use Rattle.chip.specs.Page.{page_found, all_blank, none_blank, blank_behind, written, writes}
 
 abbrev is_blank : ℕ → Bool
 is_blank w = w == 4294967295

@@ -10,7 +10,7 @@
 --                                        behind them, and none of these is blank
 --   written words at more                the memory after the words `more` are stored from place `at` on
 --   writes words at more                 what it held after each of these stores
-use Rattle.std.specs.Prelude.{◌≡◌, ℕ, suc, ◌+◌, ◌-◌, ◌≤◌, min, Bool, true, cond, not, ◌&&◌, List, [], ◌∷◌, ◌++◌, length, take, ◌==◌, nat_lt, slice_set}
+use Rattle.std.specs.Prelude.{◌≡◌, ℕ, suc, ◌+◌, ◌≤◌, min, Bool, true, cond, not, ◌&&◌, List, [], ◌∷◌, ◌++◌, length, take, ◌==◌, nat_lt, slice_set}
 
 abbrev pub page_room : List ℕ → ℕ
 page_room words = min 1048576 (length words)

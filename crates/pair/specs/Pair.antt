@@ -12,7 +12,7 @@
 --   PairPasses ..                        what a mount of both finds, moment by moment. What is found on the first changes
 --                                        only while nothing is found on the second, and what is found on the second
 --                                        only while the first is found full; so a mount is refused at no moment
-use Rattle.std.specs.Prelude.{◌≡◌, ℕ, ◌+◌, ◌<◌, ◌≤◌, min, cond, ◌&&◌, List, [], ◌∷◌, ◌++◌, map, length, take, Some, None, Option, nat_lt}
+use Rattle.std.specs.Prelude.{◌≡◌, ℕ, ◌+◌, ◌<◌, ◌≤◌, min, cond, ◌&&◌, List, [], ◌++◌, map, length, take, Some, None, Option, nat_lt}
 use Rattle.std.specs.List.{AllByRecursion as All}
 use Rattle.chip.specs.declared.refusal.Refusal.{Refusal}
 use Rattle.chip.specs.declared.refusal.Refusal.TheVariants.{PairTooLarge, FirstNotFull}

@@ -2,7 +2,6 @@
 use Rattle.std.specs.Prelude.{◌≡◌, ℕ, ◌+◌, ◌-◌, ◌<◌, ◌≤◌, min, Bool, false, cond, ◌&&◌, List, [], ◌∷◌, ◌++◌, map, length, drop, Some, None, Ok, ◌≢◌, nat_lt, slice_index, slice_index_or, refl}
 use Rattle.std.proofs.Common.{⊎_elim, inl, inr, sym, ap, subst, ◌∙◌, arith}
 use Rattle.std.specs.List.{AllByRecursion as All}
-use Rattle.std.proofs.ByRecursion.{All-weaker, All-map}
 use Rattle.std.proofs.lemmas.List.{append-nil, append_assoc, length-append, length_push, length-take, take_all, take-append-drop, nil_from_length, get_or-take, get_or_append_left, get_or-append_right}
 use Rattle.std.proofs.lemmas.Bool.{cases_lt, lt-ltb, le-ltb, and_from, and_left, and_right}
 use Rattle.chip.specs.Calls.{read_answer}

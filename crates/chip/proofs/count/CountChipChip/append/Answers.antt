@@ -1,8 +1,7 @@
-use Rattle.std.proofs.Common.{◌≡◌, ◌+◌, ◌<◌, ◌≤◌, true, [], ◌∷◌, ◌++◌, length, set, sym, refl, ap, ◌∙◌, subst, inl, inr, arith}
+use Rattle.std.proofs.Common.{◌≡◌, ◌+◌, ◌<◌, true, [], ◌∷◌, ◌++◌, length, set, sym, refl, ap, ◌∙◌, subst, inl, inr, arith}
 use Rattle.std.proofs.lemmas.List.{append-nil, length_push}
 use Rattle.std.proofs.lemmas.Bool.{both_ways}
-use Rattle.chip.specs.Cut.{Kept}
-use Rattle.chip.specs.Count.{count_room, count_of, count_words, count_sound}
+use Rattle.chip.specs.Count.{count_room, count_of, count_words}
 use Rattle.chip.proofs.CallLaws.{taken_answer, taken_leaves}
 use Rattle.chip.specs.CountLaws.{length_counted, Appended, appended}
 use Rattle.chip.specs.Finding.{kept_front}

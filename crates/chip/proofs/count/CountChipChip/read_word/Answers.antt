@@ -1,4 +1,4 @@
-use Rattle.std.proofs.Common.{◌≡◌, ◌<◌, length, Ok, sym, ap, ◌∙◌, arith}
+use Rattle.std.proofs.Common.{◌<◌, Ok, sym, ap, ◌∙◌, arith}
 use Rattle.chip.specs.Count.{count_of, count_words}
 use Rattle.chip.proofs.CallLaws.{read_within}
 use Rattle.chip.specs.CountLaws.{length_counted, read_counted}

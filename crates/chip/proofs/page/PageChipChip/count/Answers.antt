@@ -1,4 +1,4 @@
-use Rattle.std.proofs.Common.{◌≤◌, length, sym, ap, ◌∙◌, arith}
+use Rattle.std.proofs.Common.{◌≤◌, length, arith}
 use Rattle.chip.specs.PageLaws.{length_words}
 use Rattle.chip.proofs.page.PageChipChip.count.Goals as goal
 

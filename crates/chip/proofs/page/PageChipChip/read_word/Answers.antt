@@ -1,5 +1,5 @@
-use Rattle.std.proofs.Common.{◌≡◌, ◌+◌, ◌<◌, ◌≤◌, min, length, Ok, sym, ap, ◌∙◌, arith}
-use Rattle.chip.specs.Page.{page_room, page_words}
+use Rattle.std.proofs.Common.{◌<◌, ◌≤◌, length, Ok, sym, ap, ◌∙◌, arith}
+use Rattle.chip.specs.Page.{page_words}
 use Rattle.chip.proofs.CallLaws.{read_within}
 use Rattle.chip.specs.PageLaws.{length_words, read_programmed, read_waiting}
 use Rattle.chip.proofs.page.PageChipChip.read_word.Goals as goal

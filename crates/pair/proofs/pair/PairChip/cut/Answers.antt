@@ -1,6 +1,6 @@
-use Rattle.std.proofs.Common.{◌≡◌, ◌+◌, ◌<◌, ◌≤◌, ◌++◌, length, sym, ap, ◌∙◌, subst, arith}
+use Rattle.std.proofs.Common.{◌≡◌, ◌<◌, ◌≤◌, ◌++◌, length, sym, ap, ◌∙◌, subst, arith}
 use Rattle.std.proofs.lemmas.List.{length-append}
-use Rattle.pair.specs.Pair.{pair_words, pair_settled, pair_room, PairOrdered}
+use Rattle.pair.specs.Pair.{pair_words, PairOrdered}
 use Rattle.pair.specs.PairLaws.{pair_whole, ordered_room, kept_all, kept_short, not_refused, some_is_not_none, made_within, made_full}
 use Rattle.pair.proofs.pair.PairChip.cut.Goals as goal
 

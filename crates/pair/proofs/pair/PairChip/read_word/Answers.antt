@@ -1,4 +1,4 @@
-use Rattle.std.proofs.Common.{◌+◌, ◌-◌, ◌<◌, ◌≤◌, min, length, sym, ap, ◌∙◌, arith}
+use Rattle.std.proofs.Common.{◌+◌, ◌-◌, ◌<◌, min, length, sym, ap, ◌∙◌, arith}
 use Rattle.chip.specs.Calls.{read_answer}
 use Rattle.pair.specs.Pair.{pair_words}
 use Rattle.chip.proofs.CallLaws.{read_past}

@@ -1,5 +1,5 @@
 use Rattle.std.proofs.Common.{map, vec_items, ap}
-use Rattle.staging.specs.Below.{held_words, noted_stores}
+use Rattle.staging.specs.Below.{held_words}
 use Rattle.staging.proofs.BelowLaws.{both_added}
 use Rattle.staging.proofs.staged.PairStaged.copy_images.Goals as goal
 

@@ -1,5 +1,5 @@
-use Rattle.std.proofs.Common.{map, vec_items, ap}
-use Rattle.staging.specs.Below.{held_words, noted_stores}
+use Rattle.std.proofs.Common.{ap}
+use Rattle.staging.specs.Below.{noted_stores}
 use Rattle.staging.proofs.BelowLaws.{both_added}
 use Rattle.staging.proofs.staged.PairStaged.note_stores.Goals as goal
 

@@ -1,6 +1,5 @@
-use Rattle.std.proofs.Common.{◌≡◌, ◌-◌, ◌<◌, ◌≤◌, length, drop, sym, ap, ◌∙◌, arith}
+use Rattle.std.proofs.Common.{◌≤◌, length, sym, ◌∙◌, arith}
 use Rattle.std.proofs.lemmas.List.{set_past}
-use Rattle.staging.specs.Rewind.{undone}
 use Rattle.staging.specs.RewindLaws.{none_undone, one_undone, last_undone}
 use Rattle.staging.proofs.traced.Traced.after.Goals as goal
 
