@@ -5,7 +5,7 @@
 --   Moments passes s t words count   the calls from `s` to `t` passed only moments at which a mount finds
 --                                    a first part of `words` with at least `count` of them
 use Rattle.std.specs.Prelude.{ℕ, cond, List, [], ◌∷◌, ◌++◌, length, Ok, Err, Result, ◌==◌, nat_lt, slice_index}
-use Rattle.std.specs.List.{AllByRecursion as All}
+use Rattle.std.specs.List.{AllByRecursion}
 use Rattle.chip.specs.Cut.{Kept}
 use Rattle.chip.specs.declared.refusal.Refusal.{Refusal}
 use Rattle.chip.specs.declared.refusal.Refusal.TheVariants.{BlankWord, ChipFull, NoSuchWord}
@@ -23,4 +23,4 @@ read_answer words place = cond (nat_lt place (length words)) (Ok (slice_index wo
 
 abbrev pub Moments : {C : Type 0} → (C → List (List ℕ) → C → Type 0) → C → C → List ℕ → ℕ → Type 0
 Moments passes s t words count =
-    (ls : List (List ℕ)) × passes s ls t × All (Kept words count) ls
+    (ls : List (List ℕ)) × passes s ls t × AllByRecursion (Kept words count) ls

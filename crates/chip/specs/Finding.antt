@@ -1,7 +1,7 @@
 -- What a mount of a page chip finds.
 use Rattle.std.specs.Prelude.{◌≡◌, ℕ, suc, ◌+◌, ◌<◌, ◌≤◌, Bool, true, false, cond, not, ◌&&◌, List, [], ◌∷◌, ◌++◌, map, length, get_or, take, drop, set, ◌==◌, ◌≢◌, slice_index_or, slice_set, refl}
 use Rattle.std.proofs.Common.{sym, ap, ◌∙◌, arith, inr, add-one}
-use Rattle.std.specs.List.{AllByRecursion as All}
+use Rattle.std.specs.List.{AllByRecursion}
 use Rattle.std.proofs.ByRecursion.{All-weaker}
 use Rattle.std.proofs.lemmas.List.{append-nil, append_assoc, length-set, length_push, take_at, at_drop_more}
 use Rattle.std.proofs.lemmas.Bool.{and_parts, and_from, not-true, eq-eqb, ne_eqb}
@@ -60,7 +60,7 @@ kept_front front rest words low e enough =
 pub record Programmed (ws : List ℕ) (at : ℕ) (more total : List ℕ) (low : ℕ) : Type 0 where
   pub found : page_found (written ws at more) ≡ total
   pub behind : blank_behind (written ws at more) ≡ true
-  pub moments : All (λ m. (blank_behind m ≡ true) × (length m ≡ length ws) × Kept total low (page_found m)) (writes ws at more)
+  pub moments : AllByRecursion (λ m. (blank_behind m ≡ true) × (length m ≡ length ws) × Kept total low (page_found m)) (writes ws at more)
   pub gapless : Gapless (page_found ws) (map page_found (writes ws at more)) total
 
 pub programmed : (more ws : List ℕ) (at : ℕ) (total : List ℕ) (low : ℕ) → at ≡ length (page_found ws) → low ≤ at → total ≡ page_found ws ++ more → blank_behind ws ≡ true → none_blank more ≡ true → at + length more ≤ length ws → Programmed ws at more total low

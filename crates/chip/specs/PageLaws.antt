@@ -1,7 +1,7 @@
 -- The page chip's words, its mount, and what it leaves at a cut.
 use Rattle.std.specs.Prelude.{◌≡◌, ℕ, ◌+◌, ◌-◌, ◌<◌, ◌≤◌, min, true, false, cond, ◌&&◌, List, [], ◌∷◌, ◌++◌, map, length, get_or, take, drop, ◌≢◌, nat_lt, slice_index, slice_index_or, slice_set, refl}
 use Rattle.std.proofs.Common.{sym, ap, subst, ◌∙◌, arith}
-use Rattle.std.specs.List.{AllByRecursion as All}
+use Rattle.std.specs.List.{AllByRecursion}
 use Rattle.std.proofs.ByRecursion.{All-weaker, All-map}
 use Rattle.std.proofs.lemmas.List.{append-nil, append_assoc, length-append, length-set, length-take, length-take-le, take_all, take_more_set, get_or-take, get_or_append_left, get_or-append_right, get_or_default}
 use Rattle.std.proofs.lemmas.Bool.{and_parts, lt-ltb, le-ltb, ltb-true}
@@ -116,14 +116,14 @@ module _ (ws : List ℕ) (n : ℕ) (more : List ℕ) (sound : page_sound ws ≡ 
       let count : end ≡ length (page_found (written ws n more)) = e ∙ ap (λ k. k + length more) counted ∙ sym (ap length programmed_found ∙ length-append (page_found ws) more) in
       record { sound = still_sound (written ws n more) long (after 0 (omega arith)).behind; counted = count; fits = omega arith; unblank = refl }
 
-  pub programmed_sound : All (λ m. page_sound m ≡ true) (writes ws n more)
+  pub programmed_sound : AllByRecursion (λ m. page_sound m ≡ true) (writes ws n more)
   programmed_sound =
       All-weaker (λ m. (blank_behind m ≡ true) × (length m ≡ length ws) × Kept (page_found ws ++ more) 0 (page_found m)) (λ m. page_sound m ≡ true) (λ m h. still_sound m h.1 h.0) (writes ws n more) (after 0 (omega arith)).moments
 
   pub programmed_gapless : Gapless (page_found ws) (map page_found (writes ws n more)) (page_found (written ws n more))
   programmed_gapless = subst (λ l. Gapless (page_found ws) (map page_found (writes ws n more)) l) (sym programmed_found) (after 0 (omega arith)).gapless
 
-  pub programmed_kept : (words : List ℕ) (low : ℕ) → words ≡ page_found ws ++ more → low ≤ n → All (Kept words low) (map page_found (writes ws n more))
+  pub programmed_kept : (words : List ℕ) (low : ℕ) → words ≡ page_found ws ++ more → low ≤ n → AllByRecursion (Kept words low) (map page_found (writes ws n more))
   programmed_kept words low whole enough =
       All-map (Kept words low) page_found (writes ws n more) (All-weaker (λ m. (blank_behind m ≡ true) × (length m ≡ length ws) × Kept (page_found ws ++ more) low (page_found m)) (λ m. Kept words low (page_found m)) (λ m h. subst (λ l. Kept l low (page_found m)) (sym whole) h.2) (writes ws n more) (after low enough).moments)
 

@@ -7,7 +7,7 @@
 --   once_only          a number that is not above its sender's changes nothing, so a command that was run never acts again
 use Rattle.std.specs.Prelude.{◌≡◌, ℕ, zero, suc, ◌+◌, ◌-◌, ◌<◌, ◌≤◌, min, Bool, true, false, cond, not, ◌&&◌, ◌≢◌, ◌⊎◌, List, [], ◌∷◌, length, Ok, ◌==◌, nat_le, nat_lt, slice_index, slice_index_or, slice_set, refl}
 use Rattle.std.proofs.Common.{inl, inr, sym, ap, subst, ◌∙◌, arith}
-use Rattle.std.specs.List.{AllByRecursion as All}
+use Rattle.std.specs.List.{AllByRecursion}
 use Rattle.std.proofs.ByRecursion.{All-weaker}
 use Rattle.std.proofs.lemmas.List.{length-set, get_or-set_same, get_or-set_other}
 use Rattle.std.proofs.lemmas.Bool.{and_parts, and_from, not-true, ltb-true, ltb-false, lt-ltb, le-ltb, eqb-true, eqb-false, or_parts, cond_both, cond-false}
@@ -43,7 +43,7 @@ record Sound (cells : ℕ) (f : Command) : Type 0 where
   all_cells_there : cells_there cells f ≡ true
   cells_are_apart : cells_apart f ≡ true
 
-judged_fits : (body : List ℕ) (cells : ℕ) → command_judged body cells ≡ Ok tt → All (λ p. p ≤ top) body
+judged_fits : (body : List ℕ) (cells : ℕ) → command_judged body cells ≡ Ok tt → AllByRecursion (λ p. p ≤ top) body
 judged_fits body cells h =
     payloads_below body (and_parts (length body == 3) (fit_payloads body) (judged_passed body cells h).all_payloads_fit).1
 
@@ -129,15 +129,15 @@ by_each P cells f h add close latch =
     ]
 
 -- names that are put into their places
-all_placed : (P : Name → Type 0) (n : Name) (ms : List Name) → P n → All P ms → All P (placed n ms)
+all_placed : (P : Name → Type 0) (n : Name) (ms : List Name) → P n → AllByRecursion P ms → AllByRecursion P (placed n ms)
 all_placed P n [] p h = (p, tt)
 all_placed P n (m ∷ ms) p h =
-    cond_both (nat_lt n.cell m.cell) (n ∷ m ∷ ms) (m ∷ placed n ms) (λ l. All P l) (λ _. (p, h)) (λ _. (h.0, all_placed P n ms p h.1))
+    cond_both (nat_lt n.cell m.cell) (n ∷ m ∷ ms) (m ∷ placed n ms) (λ l. AllByRecursion P l) (λ _. (p, h)) (λ _. (h.0, all_placed P n ms p h.1))
 
-placed_all : (P : Name → Type 0) (n : Name) (ms : List Name) → All P (placed n ms) → P n × All P ms
+placed_all : (P : Name → Type 0) (n : Name) (ms : List Name) → AllByRecursion P (placed n ms) → P n × AllByRecursion P ms
 placed_all P n [] h = h
 placed_all P n (m ∷ ms) h =
-    cond_both (nat_lt n.cell m.cell) (n ∷ m ∷ ms) (m ∷ placed n ms) (λ l. All P l → P n × All P (m ∷ ms))
+    cond_both (nat_lt n.cell m.cell) (n ∷ m ∷ ms) (m ∷ placed n ms) (λ l. AllByRecursion P l → P n × AllByRecursion P (m ∷ ms))
     (λ _ h. h) (λ _ h. let r = placed_all P n ms h.1 in (r.0, (h.0, r.1))) h
 
 length_placed : (n : Name) (ms : List Name) → length (placed n ms) ≡ suc (length ms)
@@ -152,25 +152,25 @@ close_names f = placed (writing f.a) (writing f.b ∷ [])
 abbrev latch_names : Command → List Name
 latch_names f = placed (reading f.a) (placed (reading f.b) (writing f.c ∷ []))
 
-all_close : (P : Name → Type 0) (f : Command) → P (writing f.a) → P (writing f.b) → All P (close_names f)
+all_close : (P : Name → Type 0) (f : Command) → P (writing f.a) → P (writing f.b) → AllByRecursion P (close_names f)
 all_close P f a b = all_placed P (writing f.a) (writing f.b ∷ []) a (b, tt)
 
-all_latch : (P : Name → Type 0) (f : Command) → P (reading f.a) → P (reading f.b) → P (writing f.c) → All P (latch_names f)
+all_latch : (P : Name → Type 0) (f : Command) → P (reading f.a) → P (reading f.b) → P (writing f.c) → AllByRecursion P (latch_names f)
 all_latch P f a b c =
     all_placed P (reading f.a) (placed (reading f.b) (writing f.c ∷ [])) a (all_placed P (reading f.b) (writing f.c ∷ []) b (c, tt))
 
-close_all : (P : Name → Type 0) (f : Command) → All P (close_names f) → P (writing f.a) × P (writing f.b)
+close_all : (P : Name → Type 0) (f : Command) → AllByRecursion P (close_names f) → P (writing f.a) × P (writing f.b)
 close_all P f h =
     let p = placed_all P (writing f.a) (writing f.b ∷ []) h in
     (p.0, p.1.0)
 
-latch_all : (P : Name → Type 0) (f : Command) → All P (latch_names f) → P (reading f.a) × P (reading f.b) × P (writing f.c)
+latch_all : (P : Name → Type 0) (f : Command) → AllByRecursion P (latch_names f) → P (reading f.a) × P (reading f.b) × P (writing f.c)
 latch_all P f h =
     let p = placed_all P (reading f.a) (placed (reading f.b) (writing f.c ∷ [])) h in
     let q = placed_all P (reading f.b) (writing f.c ∷ []) p.1 in
     (p.0, q.0, q.1.0)
 
-rising_placed : (low : ℕ) (n : Name) (ms : List Name) → low ≤ n.cell → rising_from low ms ≡ true → All (λ m. n.cell ≢ m.cell) ms → rising_from low (placed n ms) ≡ true
+rising_placed : (low : ℕ) (n : Name) (ms : List Name) → low ≤ n.cell → rising_from low ms ≡ true → AllByRecursion (λ m. n.cell ≢ m.cell) ms → rising_from low (placed n ms) ≡ true
 rising_placed low n [] l r d = grind (arith, nat_tests)
 rising_placed low n (m ∷ ms) l r d =
     let p = and_parts (nat_lt low (suc m.cell)) (rising_from (suc m.cell) ms) r in
@@ -178,11 +178,11 @@ rising_placed low n (m ∷ ms) l r d =
     (λ e. and_from _ _ (lt-ltb low (suc n.cell) (omega arith)) (and_from _ _ (lt-ltb (suc n.cell) (suc m.cell) (omega (arith, ltb-true n.cell m.cell e))) p.1))
     (λ e. and_from _ _ p.0 (rising_placed (suc m.cell) n ms (omega (arith, ltb-false n.cell m.cell e, d.0)) p.1 d.1))
 
-within_all : (cells : ℕ) (ns : List Name) → All (λ n. n.cell < cells) ns → within cells ns ≡ true
+within_all : (cells : ℕ) (ns : List Name) → AllByRecursion (λ n. n.cell < cells) ns → within cells ns ≡ true
 within_all cells [] h = refl
 within_all cells (n ∷ ns) h = and_from _ _ (lt-ltb n.cell cells h.0) (within_all cells ns h.1)
 
-unwritten : (ns : List Name) (x : ℕ) → written ns x ≡ false → All (λ n. n.writes ≡ true → x ≢ n.cell) ns
+unwritten : (ns : List Name) (x : ℕ) → written ns x ≡ false → AllByRecursion (λ n. n.writes ≡ true → x ≢ n.cell) ns
 unwritten [] x h = tt
 unwritten (n ∷ ns) x h =
     let p = or_parts (n.writes && n.cell == x) (written ns x) h in
@@ -235,7 +235,7 @@ effect_at f t h x =
 unwritten_stays : (cells : ℕ) (f : Command) → Sound cells f → (t : List ℕ) (x : ℕ) → written (command_names f) x ≡ false → after f t x ≡ slice_index t x
 unwritten_stays cells f h t x =
     let P : Name → Type 0 = λ n. n.writes ≡ true → x ≢ n.cell in
-    let others : (k : ℕ) → written (command_names (with_operation k f)) x ≡ false → All P (command_names (with_operation k f)) = λ k w. unwritten (command_names (with_operation k f)) x w in
+    let others : (k : ℕ) → written (command_names (with_operation k f)) x ≡ false → AllByRecursion P (command_names (with_operation k f)) = λ k w. unwritten (command_names (with_operation k f)) x w in
     by_each (λ g. written (command_names g) x ≡ false → after g t x ≡ slice_index t x) cells f h
     (λ _ w. let u = others 1 w in grind (arith, nat_tests, u.0 refl, u.1.0 refl))
     (λ _ w. let u = others 2 w in let p = close_all P f u.1 in grind (arith, nat_tests, u.0 refl, p.0 refl, p.1 refl))
@@ -263,10 +263,10 @@ few_names cells f h =
     let three = length_placed (reading f.a) (placed (reading f.b) (writing f.c ∷ [])) ∙ ap suc (length_placed (reading f.b) (writing f.c ∷ [])) in
     by_each (λ g. length (command_names g) ≤ 8) cells f h (λ _. omega arith) (λ _. omega arith) (λ _. omega arith)
 
-names_within : (cells : ℕ) (f : Command) → Sound cells f → All (λ n. n.cell < cells) (command_names f)
+names_within : (cells : ℕ) (f : Command) → Sound cells f → AllByRecursion (λ n. n.cell < cells) (command_names f)
 names_within cells f h =
     let P : Name → Type 0 = λ n. n.cell < cells in
-    by_each (λ g. All P (command_names g)) cells f h
+    by_each (λ g. AllByRecursion P (command_names g)) cells f h
     (λ u. (omega arith, (u.in_table, tt)))
     (λ u. (omega arith, all_close P f u.a_used.in_table u.b_used.in_table))
     (λ u. (omega arith, all_latch P f u.a_used.in_table u.b_used.in_table u.c_used.in_table))
@@ -328,7 +328,7 @@ latest_never_falls f t h x low =
 sound_at : (body : List ℕ) (cells : ℕ) → command_judged body cells ≡ Ok tt → (t : List ℕ) → length t ≡ cells → Sound (length t) (fields body)
 sound_at body cells h t e = rw e (judged_sound body cells h)
 
-latest_kept : (cells x n : ℕ) → x < 8 → (bodies : List (List ℕ)) (t : List ℕ) → All (λ other. command_judged other cells ≡ Ok tt) bodies → length t ≡ cells → n ≤ slice_index t x → n ≤ slice_index (run_each bodies t) x
+latest_kept : (cells x n : ℕ) → x < 8 → (bodies : List (List ℕ)) (t : List ℕ) → AllByRecursion (λ other. command_judged other cells ≡ Ok tt) bodies → length t ≡ cells → n ≤ slice_index t x → n ≤ slice_index (run_each bodies t) x
 latest_kept cells x n low [] t well long h = h
 latest_kept cells x n low (body ∷ bodies) t well long h =
     let f = fields body in

@@ -17,7 +17,7 @@
 --   run_each bodies table       the commands of the bodies, run one after the other
 --   OnceOnly body table         a number that is not above its sender's changes nothing, so a command that was run never acts again
 use Rattle.std.specs.Prelude.{◌≡◌, ℕ, ◌+◌, ◌*◌, ◌/◌, ◌%◌, ◌≤◌, min, Bool, true, false, cond, not, ◌&&◌, List, [], ◌∷◌, length, Some, None, Ok, Option, Result, ◌==◌, nat_le, nat_lt, slice_index, slice_set}
-use Rattle.std.specs.List.{AllByRecursion as All}
+use Rattle.std.specs.List.{AllByRecursion}
 use Rattle.vector.specs.Format.{payloads}
 use Rattle.commands.specs.declared.commands.Command.{Command}
 use Rattle.work.specs.declared.fault.BodyFault.{BodyFault}
@@ -124,4 +124,4 @@ run_each (body ∷ bodies) table = run_each bodies (command_effect (fields body)
 pub record OnceOnly (body table : List ℕ) : Type 0 where
   pub old_number_changes_nothing : (fields body).number ≤ slice_index table (fields body).sender → command_effect (fields body) table ≡ table
   -- once it was run, it changes nothing any more, whatever well_formed commands are run in between
-  pub never_acts_again : (cells : ℕ) → command_judged body cells ≡ Ok tt → length table ≡ cells → (between : List (List ℕ)) → All (λ other. command_judged other cells ≡ Ok tt) between → let later = run_each between (command_effect (fields body) table) in command_effect (fields body) later ≡ later
+  pub never_acts_again : (cells : ℕ) → command_judged body cells ≡ Ok tt → length table ≡ cells → (between : List (List ℕ)) → AllByRecursion (λ other. command_judged other cells ≡ Ok tt) between → let later = run_each between (command_effect (fields body) table) in command_effect (fields body) later ≡ later

@@ -1,7 +1,7 @@
 // Commands: a body is three payloads, an operation with its sender and number, cells, and an amount.
 ghost use Rattle.std.specs.Prelude.{◌≡◌, [], ◌∷◌};
-ghost use Rattle.work.specs.Kinds.{nth, writing as named-for-writing, reading as named-for-reading};
-ghost use Rattle.commands.specs.Commands.{commands, fields, fit_fields, body_of, FieldsGivenBack, above_latest, command_effect, acted, is_operation, unused_are_zero, usable as can-use, cells_there, cells_apart, placed, OnceOnly};
+ghost use Rattle.work.specs.Kinds.{nth, writing as named_for_writing, reading as named_for_reading};
+ghost use Rattle.commands.specs.Commands.{commands, fields, fit_fields, body_of, FieldsGivenBack, above_latest, command_effect, acted, is_operation, unused_are_zero, usable as can_use, cells_there, cells_apart, placed, OnceOnly};
 ghost use Rattle.commands.specs.CommandLaws.{commands_lawful};
 
 use vector::format::PAYLOADS;
@@ -167,13 +167,13 @@ impl Command {
 
 // A cell that the table has and that is not a sender's.
 fn usable(cells: u32, cell: u32) -> bool
-    ensures { result ≡ can-use cells cell }
+    ensures { result ≡ can_use cells cell }
 {
     cell >= SENDERS && cell < cells
 }
 
 fn reading(cell: u32) -> Name
-    ensures { result ≡ named-for-reading cell }
+    ensures { result ≡ named_for_reading cell }
 {
     Name {
         cell,
@@ -182,7 +182,7 @@ fn reading(cell: u32) -> Name
 }
 
 fn writing(cell: u32) -> Name
-    ensures { result ≡ named-for-writing cell }
+    ensures { result ≡ named_for_writing cell }
 {
     Name { cell, writes: true }
 }

@@ -17,7 +17,7 @@ use Rattle.vector.specs.Vectors.{zeros}
 use Rattle.work.specs.Kinds.{Kind}
 use Rattle.logs.specs.declared.record.Head.{Head}
 use Rattle.logs.specs.declared.record.Record.{Record}
-use Rattle.logs.specs.Reading.{in_body, in-record, faulted, body_fault, head_of, Found, parts_read, record_read, and_then, of_kind, entry_of, entry_fits, is_past_start, entry_in, payload_in, placed_at, from_word, word_at, next_part, entries_read, payloads_read}
+use Rattle.logs.specs.Reading.{in_body, in_record, faulted, body_fault, head_of, Found, parts_read, record_read, and_then, of_kind, entry_of, entry_fits, is_past_start, entry_in, payload_in, placed_at, from_word, word_at, next_part, entries_read, payloads_read}
 
 no_word : (ws : List ℕ) (at : ℕ) → length ws ≤ at → word_at ws at ≡ None
 no_word ws at h = ap (λ b. cond b (Some (get_or ws at 0)) None) (le-ltb at (length ws) h)
@@ -216,27 +216,27 @@ record_of work cells o ws f r parts body =
     then_ok (parts_read o ws) f _ parts ∙ ap (λ q. and_then (placed_at o o.start q) (λ _. Ok f)) body
 
 -- the parts in the code's hands, with the body as it stands there
-pub parts_in_hand : (o : Origin) (ws : List ℕ) (h : Head) (v : List ℕ) (body : Body) (at : ℕ) → next_part o ws 0 head_of ≡ Ok h → entries_read o (o.start + 1) 0 zeros h.entries (drop 1 ws) ≡ Ok v → Ok body ≡ and_then (payloads_read o (o.start + (1 + h.entries)) [] h.payloads (drop (1 + h.entries) ws)) (λ b. Ok (in_body b)) → at ≡ 1 + h.entries + h.payloads → ◌≡◌ {A = Result Record Stop} (Ok (record { end = o.start + at; vector = v; body = body })) (and_then (parts_read o ws) (λ f. Ok (in-record f)))
+pub parts_in_hand : (o : Origin) (ws : List ℕ) (h : Head) (v : List ℕ) (body : Body) (at : ℕ) → next_part o ws 0 head_of ≡ Ok h → entries_read o (o.start + 1) 0 zeros h.entries (drop 1 ws) ≡ Ok v → Ok body ≡ and_then (payloads_read o (o.start + (1 + h.entries)) [] h.payloads (drop (1 + h.entries) ws)) (λ b. Ok (in_body b)) → at ≡ 1 + h.entries + h.payloads → ◌≡◌ {A = Result Record Stop} (Ok (record { end = o.start + at; vector = v; body = body })) (and_then (parts_read o ws) (λ f. Ok (in_record f)))
 parts_in_hand o ws h v body at head vector payloads passed =
     let read = then_from (payloads_read o (o.start + (1 + h.entries)) [] h.payloads (drop (1 + h.entries) ws)) (λ b. Ok (in_body b)) body (sym payloads) in
     let of : ℕ → Body → Record = λ n b. record { end = o.start + n; vector = v; body = b } in
     ap (λ n. Ok (of n body)) passed
     ∙ ap (λ b. Ok (of (1 + h.entries + h.payloads) b)) (sym (ok_same (in_body read.0) body read.2))
-    ∙ sym (ap (λ r. and_then r (λ f. Ok (in-record f))) (parts_of o ws h v read.0 head vector read.1))
+    ∙ sym (ap (λ r. and_then r (λ f. Ok (in_record f))) (parts_of o ws h v read.0 head vector read.1))
 
-judged_parts : (o : Origin) (whole : Record) (f : Found) (r : Result (Unit {0}) Cause) → in-record f ≡ whole → ◌≡◌ {A = Result Record Stop} (and_then (placed_at o o.start r) (λ _. Ok whole)) (and_then (and_then (placed_at o o.start r) (λ _. Ok f)) (λ g. Ok (in-record g)))
+judged_parts : (o : Origin) (whole : Record) (f : Found) (r : Result (Unit {0}) Cause) → in_record f ≡ whole → ◌≡◌ {A = Result Record Stop} (and_then (placed_at o o.start r) (λ _. Ok whole)) (and_then (and_then (placed_at o o.start r) (λ _. Ok f)) (λ g. Ok (in_record g)))
 judged_parts o whole f (Ok x) is = ap (λ x. Ok x) (sym is)
 judged_parts o whole f (Err c) is = refl
 
 -- a record in the code's hands, once its body is judged
-pub record_in_hand : (work : Kind) (cells : ℕ) (o : Origin) (ws : List ℕ) (whole : Record) (body : List ℕ) (r : Result (Unit {0}) Cause) → Ok whole ≡ and_then (parts_read o ws) (λ f. Ok (in-record f)) → body ≡ take whole.body.count whole.body.payloads → r ≡ body_fault (work.judged body cells) → ◌≡◌ {A = Result Record Stop} (and_then (placed_at o o.start r) (λ _. Ok whole)) (and_then (record_read work cells o ws) (λ f. Ok (in-record f)))
+pub record_in_hand : (work : Kind) (cells : ℕ) (o : Origin) (ws : List ℕ) (whole : Record) (body : List ℕ) (r : Result (Unit {0}) Cause) → Ok whole ≡ and_then (parts_read o ws) (λ f. Ok (in_record f)) → body ≡ take whole.body.count whole.body.payloads → r ≡ body_fault (work.judged body cells) → ◌≡◌ {A = Result Record Stop} (and_then (placed_at o o.start r) (λ _. Ok whole)) (and_then (record_read work cells o ws) (λ f. Ok (in_record f)))
 record_in_hand work cells o ws whole body r parts payloads judged =
-    let read = then_from (parts_read o ws) (λ f. Ok (in-record f)) whole (sym parts) in
+    let read = then_from (parts_read o ws) (λ f. Ok (in_record f)) whole (sym parts) in
     let f = read.0 in
-    let is : in-record f ≡ whole = ok_same (in-record f) whole read.2 in
+    let is : in_record f ≡ whole = ok_same (in_record f) whole read.2 in
     let same : body ≡ f.body = payloads ∙ ap (λ (x : Record). take x.body.count x.body.payloads) (sym is) ∙ payloads_of_body f.body in
     judged_parts o whole f r is
-    ∙ sym (ap (λ q. and_then q (λ g. Ok (in-record g))) (record_of work cells o ws f r read.1 (sym (judged ∙ ap (λ b. body_fault (work.judged b cells)) same))))
+    ∙ sym (ap (λ q. and_then q (λ g. Ok (in_record g))) (record_of work cells o ws f r read.1 (sym (judged ∙ ap (λ b. body_fault (work.judged b cells)) same))))
 
 -- a fault with its place stops the reading
 pub placed_from_faulted : {X : Type 0} (o : Origin) (place : ℕ) (r : Result X Cause) (x : X) → faulted o place r ≡ Ok x → placed_at o place r ≡ Ok x

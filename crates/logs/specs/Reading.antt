@@ -128,11 +128,11 @@ record_read work cells o ws =
 abbrev pub in_body : List ℕ → Body
 in_body b = record { payloads = padded 16 b; count = length b }
 
-abbrev pub in-record : Found → Record
-in-record f = record { end = f.end; vector = f.vector; body = in_body f.body }
+abbrev pub in_record : Found → Record
+in_record f = record { end = f.end; vector = f.vector; body = in_body f.body }
 
 abbrev pub answered : Result Found Stop → Result (Option Record) RecordFault
-answered (Ok f) = Ok (Some (in-record f))
+answered (Ok f) = Ok (Some (in_record f))
 answered (Err RunsOut) = Ok None
 answered (Err (Fault f)) = Err f
 

@@ -1,8 +1,8 @@
 // The reader takes the words of one record in turn, and stops at the first that is unsound.
-ghost use Rattle.std.specs.Prelude.{◌≡◌, ◌+◌, ◌<◌, ◌≤◌, true, [], length, drop, is_ok as isOk, if◌then◌else◌, Ok as is_ok};
+ghost use Rattle.std.specs.Prelude.{◌≡◌, ◌+◌, ◌<◌, ◌≤◌, true, [], length, drop, is_ok, if◌then◌else◌};
 ghost use Rattle.vector.specs.Vectors.{zeros};
 ghost use Rattle.logs.specs.RoundTrip.{OnlyWritten};
-ghost use Rattle.logs.specs.Reading.{and_then, head_of, entry_of, payload_in, next_part, word_at, entries_read, payloads_read, body_fault, placed_at, faulted, parts_read, record_read, read_answer, in_body, in-record};
+ghost use Rattle.logs.specs.Reading.{and_then, head_of, entry_of, payload_in, next_part, word_at, entries_read, payloads_read, body_fault, placed_at, faulted, parts_read, record_read, read_answer, in_body, in_record};
 
 use crate::fault::{Cause, RecordFault, Stop};
 use crate::record::{Body, Entry, Head, Origin, Record};
@@ -99,7 +99,7 @@ impl<'a> Reader<'a> {
     fn pass<T>(&mut self, judged: Result<T, Cause>) -> Result<T, Stop>
         requires { self.old.at < length self.old.words.now }
         ensures answer { result ≡ placed_at self.old.origin (self.old.origin.start + self.old.at) judged }
-        ensures at { self.new.at ≡ (if isOk judged then self.old.at + 1 else self.old.at) }
+        ensures at { self.new.at ≡ (if is_ok judged then self.old.at + 1 else self.old.at) }
         ensures same { (self.new.words ≡ self.old.words) × (self.new.origin ≡ self.old.origin) }
     {
         match judged {
@@ -117,7 +117,7 @@ impl<'a> Reader<'a> {
 
     pub fn head(&mut self) -> Result<Head, Stop>
         ensures answer { result ≡ next_part self.old.origin self.old.words.now self.old.at head_of }
-        ensures at { self.new.at ≡ (if isOk result then self.old.at + 1 else self.old.at) }
+        ensures at { self.new.at ≡ (if is_ok result then self.old.at + 1 else self.old.at) }
         ensures same { (self.new.words ≡ self.old.words) × (self.new.origin ≡ self.old.origin) }
     {
         let Some(word) = self.next_word() else {
@@ -129,7 +129,7 @@ impl<'a> Reader<'a> {
     // The next vector word, whose chip has to be `low` or a later one.
     pub fn entry(&mut self, low: u32) -> Result<Entry, Stop>
         ensures answer { result ≡ next_part self.old.origin self.old.words.now self.old.at (entry_of self.old.origin low) }
-        ensures at { self.new.at ≡ (if isOk result then self.old.at + 1 else self.old.at) }
+        ensures at { self.new.at ≡ (if is_ok result then self.old.at + 1 else self.old.at) }
         ensures same { (self.new.words ≡ self.old.words) × (self.new.origin ≡ self.old.origin) }
     {
         let Some(word) = self.next_word() else {
@@ -141,7 +141,7 @@ impl<'a> Reader<'a> {
     // The payload of the next body word.
     pub fn payload(&mut self) -> Result<u32, Stop>
         ensures answer { result ≡ next_part self.old.origin self.old.words.now self.old.at payload_in }
-        ensures at { self.new.at ≡ (if isOk result then self.old.at + 1 else self.old.at) }
+        ensures at { self.new.at ≡ (if is_ok result then self.old.at + 1 else self.old.at) }
         ensures same { (self.new.words ≡ self.old.words) × (self.new.origin ≡ self.old.origin) }
     {
         let Some(word) = self.next_word() else {
@@ -153,7 +153,7 @@ impl<'a> Reader<'a> {
     // The vector of so many vector words.
     fn vector(&mut self, count: u32) -> Result<[u32; 8], Stop>
         ensures answer { result ≡ entries_read self.old.origin (self.old.origin.start + self.old.at) 0 zeros count (drop self.old.at self.old.words.now) }
-        ensures at { isOk result ≡ true → self.new.at ≡ self.old.at + count }
+        ensures at { is_ok result ≡ true → self.new.at ≡ self.old.at + count }
         ensures same { (self.new.words ≡ self.old.words) × (self.new.origin ≡ self.old.origin) }
     {
         let mut vector = [0; 8];
@@ -169,8 +169,8 @@ impl<'a> Reader<'a> {
     // The body of so many body words.
     fn body(&mut self, count: u32) -> Result<Body, Stop>
         requires { count ≤ 16 }
-        ensures answer { result ≡ and_then (payloads_read self.old.origin (self.old.origin.start + self.old.at) [] count (drop self.old.at self.old.words.now)) (λ b. is_ok (in_body b)) }
-        ensures at { isOk result ≡ true → self.new.at ≡ self.old.at + count }
+        ensures answer { result ≡ and_then (payloads_read self.old.origin (self.old.origin.start + self.old.at) [] count (drop self.old.at self.old.words.now)) (λ b. Ok (in_body b)) }
+        ensures at { is_ok result ≡ true → self.new.at ≡ self.old.at + count }
         ensures same { (self.new.words ≡ self.old.words) × (self.new.origin ≡ self.old.origin) }
     {
         let mut payloads = [0; 16];
@@ -208,7 +208,7 @@ fn at_head(origin: Origin, judged: Result<(), Cause>) -> Result<(), RecordFault>
 
 // The parts of the record at the front of the words, its body not judged yet.
 fn read_parts(origin: Origin, words: &[u32]) -> Result<Record, Stop>
-    ensures { result ≡ and_then (parts_read origin words.now) (λ f. is_ok (in-record f)) }
+    ensures { result ≡ and_then (parts_read origin words.now) (λ f. Ok (in_record f)) }
 {
     let mut reader = Reader::new(origin, words);
     let head = reader.head()?;
@@ -223,7 +223,7 @@ fn read_parts(origin: Origin, words: &[u32]) -> Result<Record, Stop>
 
 // The record at the front of the words, or why there is none.
 fn read_record<W: Work>(work: &W, cells: u32, origin: Origin, words: &[u32]) -> Result<Record, Stop>
-    ensures { result ≡ and_then (record_read (W.Work.kind work.now) cells origin words.now) (λ f. is_ok (in-record f)) }
+    ensures { result ≡ and_then (record_read (W.Work.kind work.now) cells origin words.now) (λ f. Ok (in_record f)) }
 {
     let record = read_parts(origin, words)?;
     at_head(origin, judge_body(work, cells, record.body.as_slice()))?;

@@ -13,7 +13,7 @@
 --                                        only while nothing is found on the second, and what is found on the second
 --                                        only while the first is found full; so a mount is refused at no moment
 use Rattle.std.specs.Prelude.{◌≡◌, ℕ, ◌+◌, ◌<◌, ◌≤◌, min, cond, ◌&&◌, List, [], ◌++◌, map, length, take, Some, None, Option, nat_lt}
-use Rattle.std.specs.List.{AllByRecursion as All}
+use Rattle.std.specs.List.{AllByRecursion}
 use Rattle.chip.specs.declared.refusal.Refusal.{Refusal}
 use Rattle.chip.specs.declared.refusal.Refusal.TheVariants.{PairTooLarge, FirstNotFull}
 
@@ -54,8 +54,8 @@ module _ {A B : Type 0} (passes-first : A → List (List ℕ) → A → Type 0) 
     -- the first passes moments while nothing is found on the second
     first_moves : {a a' c : A} {b d : B} {moments more : List (List ℕ)} → passes-first a moments a' → left-second b ≡ [] → PairPasses a' b more c d → PairPasses a b (map (λ l. l ++ left-second b) moments ++ more) c d
     -- the first is found full, and steps that change nothing that is found on it
-    first_stays : {a a' c : A} {b d : B} {moments more : List (List ℕ)} → passes-first a moments a' → length (left-first a) ≡ room-first a → All (λ l. l ≡ left-first a) moments → left-first a' ≡ left-first a → PairPasses a' b more c d → PairPasses a b (map (λ l. l ++ left-second b) moments ++ more) c d
+    first_stays : {a a' c : A} {b d : B} {moments more : List (List ℕ)} → passes-first a moments a' → length (left-first a) ≡ room-first a → AllByRecursion (λ l. l ≡ left-first a) moments → left-first a' ≡ left-first a → PairPasses a' b more c d → PairPasses a b (map (λ l. l ++ left-second b) moments ++ more) c d
     -- the second passes moments while the first is found full
     second_moves : {a c : A} {b b' d : B} {moments more : List (List ℕ)} → passes-second b moments b' → length (left-first a) ≡ room-first a → PairPasses a b' more c d → PairPasses a b (map (λ l. left-first a ++ l) moments ++ more) c d
     -- nothing is found on the second, and steps that change nothing of that
-    second_stays : {a c : A} {b b' d : B} {moments more : List (List ℕ)} → passes-second b moments b' → left-second b ≡ [] → All (λ l. l ≡ left-second b) moments → left-second b' ≡ left-second b → PairPasses a b' more c d → PairPasses a b (map (λ l. left-first a ++ l) moments ++ more) c d
+    second_stays : {a c : A} {b b' d : B} {moments more : List (List ℕ)} → passes-second b moments b' → left-second b ≡ [] → AllByRecursion (λ l. l ≡ left-second b) moments → left-second b' ≡ left-second b → PairPasses a b' more c d → PairPasses a b (map (λ l. left-first a ++ l) moments ++ more) c d

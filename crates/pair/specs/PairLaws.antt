@@ -1,7 +1,7 @@
 -- Two chips as one: words, moments and what is left at a cut.
 use Rattle.std.specs.Prelude.{◌≡◌, ℕ, ◌+◌, ◌-◌, ◌<◌, ◌≤◌, min, Bool, false, cond, ◌&&◌, List, [], ◌∷◌, ◌++◌, map, length, drop, Some, None, Ok, ◌≢◌, nat_lt, slice_index, slice_index_or, refl}
 use Rattle.std.proofs.Common.{⊎_elim, inl, inr, sym, ap, subst, ◌∙◌, arith}
-use Rattle.std.specs.List.{AllByRecursion as All}
+use Rattle.std.specs.List.{AllByRecursion}
 use Rattle.std.proofs.lemmas.List.{append-nil, append_assoc, length-append, length_push, length-take, take_all, take-append-drop, nil_from_length, get_or-take, get_or_append_left, get_or-append_right}
 use Rattle.std.proofs.lemmas.Bool.{cases_lt, lt-ltb, le-ltb, and_from, and_left, and_right}
 use Rattle.chip.specs.Calls.{read_answer}
@@ -98,7 +98,7 @@ gapless_before none (x ∷ xs) a c empty here =
     let bare : (l : List ℕ) → l ++ none ≡ l = λ l. ap (λ m. l ++ m) empty ∙ append-nil l in
     (⊎_elim (λ e. inl (ap (λ l. l ++ none) e)) (λ e. inr (e.0, bare x ∙ e.1 ∙ ap (λ l. l ++ e.0 ∷ []) (sym (bare a)))) here.0, gapless_before none xs x c empty here.1)
 
-pub gapless_same : (now : List ℕ) (back : List ℕ) (xs : List (List ℕ)) (last : List ℕ) → All (λ l. l ≡ now) xs → last ≡ now → Gapless (now ++ back) (map (λ l. l ++ back) xs) (last ++ back)
+pub gapless_same : (now : List ℕ) (back : List ℕ) (xs : List (List ℕ)) (last : List ℕ) → AllByRecursion (λ l. l ≡ now) xs → last ≡ now → Gapless (now ++ back) (map (λ l. l ++ back) xs) (last ++ back)
 gapless_same now back [] last all e = ap (λ l. l ++ back) (sym e)
 gapless_same now back (x ∷ xs) last all e =
     (inl (ap (λ l. l ++ back) all.0), subst (λ n. Gapless (n ++ back) (map (λ l. l ++ back) xs) (last ++ back)) (sym all.0) (gapless_same now back xs last all.1 e))

@@ -1,7 +1,7 @@
 -- The moments that a pair passes join, and leave no gap.
 use Rattle.std.specs.Prelude.{◌≡◌, ℕ, ◌+◌, ◌≤◌, List, [], ◌++◌, map, length, refl}
 use Rattle.std.proofs.Common.{sym, subst, ◌∙◌}
-use Rattle.std.specs.List.{AllByRecursion as All}
+use Rattle.std.specs.List.{AllByRecursion}
 use Rattle.std.proofs.ByRecursion.{All-append, All-map, All-weaker}
 use Rattle.std.proofs.lemmas.List.{append_assoc}
 use Rattle.chip.specs.Cut.{Kept, Gapless}
@@ -39,7 +39,7 @@ module _ {A B : Type 0} (passes-first : A → List (List ℕ) → A → Type 0) 
 
   -- the moments from one state of both to another, each with a first part of `words` that has at least `low` of them
   abbrev pub Seen : A → B → A → B → List ℕ → ℕ → Type 0
-  Seen a b c d words low = (ls : List (List ℕ)) × Passes a b ls c d × All (Kept words low) ls
+  Seen a b c d words low = (ls : List (List ℕ)) × Passes a b ls c d × AllByRecursion (Kept words low) ls
 
   pub seen_joined : {a c : A} {b d : B} {words : List ℕ} {low : ℕ} → Seen a b c d words low → (e : A) (f : B) → Seen c d e f words low → Seen a b e f words low
   seen_joined {words = words} {low = low} here e f more =
@@ -47,22 +47,22 @@ module _ {A B : Type 0} (passes-first : A → List (List ℕ) → A → Type 0) 
 
   -- one chip passes moments, and what is found on the other stands still
   module _ (wa wb : List ℕ) (sa sb low : ℕ) where
-    mapped : (f : List ℕ → List ℕ) (words : List ℕ) (bound : ℕ) → ((l : List ℕ) → Kept words bound l → Kept (wa ++ wb) low (f l)) → (xs : List (List ℕ)) → All (Kept words bound) xs → All (Kept (wa ++ wb) low) (map f xs ++ [])
+    mapped : (f : List ℕ → List ℕ) (words : List ℕ) (bound : ℕ) → ((l : List ℕ) → Kept words bound l → Kept (wa ++ wb) low (f l)) → (xs : List (List ℕ)) → AllByRecursion (Kept words bound) xs → AllByRecursion (Kept (wa ++ wb) low) (map f xs ++ [])
     mapped f words bound each xs kept =
         All-append (Kept (wa ++ wb) low) (map f xs) [] (All-map (Kept (wa ++ wb) low) f xs (All-weaker (Kept words bound) (λ l. Kept (wa ++ wb) low (f l)) each xs kept)) tt
 
-    pub seen_first : (a a' : A) (b : B) (xs : List (List ℕ)) → passes-first a xs a' → left-second b ≡ [] → All (Kept wa sa) xs → low ≤ sa → Seen a b a' b (wa ++ wb) low
+    pub seen_first : (a a' : A) (b : B) (xs : List (List ℕ)) → passes-first a xs a' → left-second b ≡ [] → AllByRecursion (Kept wa sa) xs → low ≤ sa → Seen a b a' b (wa ++ wb) low
     seen_first a a' b xs step none kept below =
         (map (λ l. l ++ left-second b) xs ++ [], first_moves step none still, mapped (λ l. l ++ left-second b) wa sa (λ l k. kept_on_first wa wb sa low l (left-second b) k none below) xs kept)
 
-    pub seen_first_stays : (a a' : A) (b : B) (xs : List (List ℕ)) → passes-first a xs a' → All (Kept wa sa) xs → sa ≡ length wa → length (left-first a) ≡ room-first a → left-first a ≡ wa → left-first a' ≡ wa → Kept wb sb (left-second b) → low ≤ length wa + sb → Seen a b a' b (wa ++ wb) low
+    pub seen_first_stays : (a a' : A) (b : B) (xs : List (List ℕ)) → passes-first a xs a' → AllByRecursion (Kept wa sa) xs → sa ≡ length wa → length (left-first a) ≡ room-first a → left-first a ≡ wa → left-first a' ≡ wa → Kept wb sb (left-second b) → low ≤ length wa + sb → Seen a b a' b (wa ++ wb) low
     seen_first_stays a a' b xs step kept all full here there second below =
         (map (λ l. l ++ left-second b) xs ++ [], first_stays step full (All-weaker (Kept wa sa) (λ l. l ≡ left-first a) (λ l k. kept_all wa sa l k all ∙ sym here) xs kept) (there ∙ sym here) still, mapped (λ l. l ++ left-second b) wa sa (λ l k. kept_on_second wa wb sb low l (left-second b) (kept_all wa sa l k all) second below) xs kept)
 
-    pub seen_second : (a : A) (b b' : B) (ys : List (List ℕ)) → passes-second b ys b' → length (left-first a) ≡ room-first a → left-first a ≡ wa → All (Kept wb sb) ys → low ≤ length wa + sb → Seen a b a b' (wa ++ wb) low
+    pub seen_second : (a : A) (b b' : B) (ys : List (List ℕ)) → passes-second b ys b' → length (left-first a) ≡ room-first a → left-first a ≡ wa → AllByRecursion (Kept wb sb) ys → low ≤ length wa + sb → Seen a b a b' (wa ++ wb) low
     seen_second a b b' ys step full here kept below =
         (map (λ l. left-first a ++ l) ys ++ [], second_moves step full still, mapped (λ l. left-first a ++ l) wb sb (λ l k. kept_on_second wa wb sb low (left-first a) l here k below) ys kept)
 
-    pub seen_second_stays : (a : A) (b b' : B) (ys : List (List ℕ)) → passes-second b ys b' → left-first a ≡ wa → left-second b ≡ [] → left-second b' ≡ [] → length wb ≤ 0 → All (Kept wb sb) ys → low ≤ length wa + sb → Seen a b a b' (wa ++ wb) low
+    pub seen_second_stays : (a : A) (b b' : B) (ys : List (List ℕ)) → passes-second b ys b' → left-first a ≡ wa → left-second b ≡ [] → left-second b' ≡ [] → length wb ≤ 0 → AllByRecursion (Kept wb sb) ys → low ≤ length wa + sb → Seen a b a b' (wa ++ wb) low
     seen_second_stays a b b' ys step here none none' empty kept below =
         (map (λ l. left-first a ++ l) ys ++ [], second_stays step none (All-weaker (Kept wb sb) (λ l. l ≡ left-second b) (λ l k. kept_none wb sb l k empty ∙ sym none) ys kept) (none' ∙ sym none) still, mapped (λ l. left-first a ++ l) wb sb (λ l k. kept_on_second wa wb sb low (left-first a) l here k below) ys kept)

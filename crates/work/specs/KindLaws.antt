@@ -1,7 +1,7 @@
 -- Facts that every kind of work uses for its laws.
 use Rattle.std.specs.Prelude.{◌≡◌, ℕ, ◌≤◌, Bool, true, false, cond, List, [], ◌∷◌, Ok, Err, Result, nat_lt, refl}
 use Rattle.std.proofs.Common.{arith}
-use Rattle.std.specs.List.{AllByRecursion as All}
+use Rattle.std.specs.List.{AllByRecursion}
 use Rattle.std.proofs.lemmas.Bool.{ltb-true, and_parts}
 use Rattle.work.specs.declared.fault.BodyFault.{BodyFault}
 use Rattle.work.specs.Kinds.{top, fit_payloads}
@@ -11,7 +11,7 @@ pub ok_then : (b : Bool) (r : Result (Unit {0}) BodyFault) (e : BodyFault) → c
 ok_then true r e h = (refl, h)
 ok_then false r e h = absurd (let z : ◌≡◌ {A = ℕ} 0 1 = cc in omega arith)
 
-pub payloads_below : (body : List ℕ) → fit_payloads body ≡ true → All (λ p. p ≤ top) body
+pub payloads_below : (body : List ℕ) → fit_payloads body ≡ true → AllByRecursion (λ p. p ≤ top) body
 payloads_below [] h = tt
 payloads_below (p ∷ ps) h =
     let parts = and_parts (nat_lt p 536870912) (fit_payloads ps) h in

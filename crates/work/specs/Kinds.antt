@@ -14,7 +14,7 @@
 --   WithinTop t              no value of the table passes the top
 --   Lawful kind              the laws
 use Rattle.std.specs.Prelude.{◌≡◌, ℕ, zero, suc, ◌≤◌, Bool, true, false, cond, ◌&&◌, ◌||◌, List, [], ◌∷◌, length, Some, None, Ok, Err, Option, Result, ◌==◌, nat_lt, slice_index}
-use Rattle.std.specs.List.{AllByRecursion as All}
+use Rattle.std.specs.List.{AllByRecursion}
 use Rattle.vector.specs.Format.{payloads}
 use Rattle.work.specs.declared.fault.BodyFault.{BodyFault}
 use Rattle.work.specs.declared.name.Name.{Name}
@@ -69,7 +69,7 @@ written [] x = false
 written (n ∷ ns) x = (n.writes && n.cell == x) || written ns x
 
 abbrev pub Alike : List Name → List ℕ → List ℕ → Type 0
-Alike ns t u = All (λ (n : Name). slice_index t n.cell ≡ slice_index u n.cell) ns
+Alike ns t u = AllByRecursion (λ (n : Name). slice_index t n.cell ≡ slice_index u n.cell) ns
 
 abbrev pub WithinTop : List ℕ → Type 0
 WithinTop t = (x : ℕ) → slice_index t x ≤ top
@@ -81,7 +81,7 @@ pub record Lawful (k : Kind) : Type 0 where
   pub named_once_in_rising_number : (body : List ℕ) (cells : ℕ) → WellFormed k body cells → rising (k.names body) ≡ true
   pub named_are_there : (body : List ℕ) (cells : ℕ) → WellFormed k body cells → within cells (k.names body) ≡ true
   pub one_for_writing : (body : List ℕ) (cells : ℕ) → WellFormed k body cells → names_writing (k.names body) ≡ true
-  pub all_payloads_fit : (body : List ℕ) (cells : ℕ) → WellFormed k body cells → All (λ p. p ≤ top) body
+  pub all_payloads_fit : (body : List ℕ) (cells : ℕ) → WellFormed k body cells → AllByRecursion (λ p. p ≤ top) body
   pub keeps_length : (body table : List ℕ) → length (k.effect body table) ≡ length table
   pub only_written_change : (body : List ℕ) (cells : ℕ) → WellFormed k body cells → (table : List ℕ) → length table ≡ cells → (x : ℕ) → written (k.names body) x ≡ false → slice_index (k.effect body table) x ≡ slice_index table x
   pub alike_stay_alike : (body : List ℕ) (cells : ℕ) → WellFormed k body cells → (t u : List ℕ) → length t ≡ cells → length u ≡ cells → Alike (k.names body) t u → Alike (k.names body) (k.effect body t) (k.effect body u)

@@ -1,7 +1,7 @@
 // Values: a body sets cells, each pair of payloads a cell and the value that it gets.
 ghost use Rattle.std.specs.Prelude.{◌≡◌};
 ghost use Rattle.work.specs.Kinds.{within, rising};
-ghost use Rattle.work.specs.Values.{values, values_names, pairs_fit as fit-pairs};
+ghost use Rattle.work.specs.Values.{values, values_names, pairs_fit as fit_pairs};
 ghost use Rattle.work.specs.ValuesLaws.{values_lawful};
 
 use crate::fault::BodyFault;
@@ -15,7 +15,7 @@ pub struct Values;
 
 // 1 to 8 pairs and nothing left over.
 fn pairs_fit(count: usize) -> bool
-    ensures { result ≡ fit-pairs count }
+    ensures { result ≡ fit_pairs count }
 {
     count > 0 && count <= PAYLOADS_OF_A_BODY && count % 2 == 0
 }
