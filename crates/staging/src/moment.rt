@@ -26,6 +26,7 @@ pub fn counts_at(
 }
 
 // How many stores a call made.
+#[tactic(auto, using(crate::proofs::SpreadLaws::made_more, crate::proofs::SpreadLaws::made_end))]
 pub fn stores_between(before: &[usize], after: &[usize]) -> usize
     ensures { result ≡ min 18446744073709551615 (made_by before.now after.now) }
 {
