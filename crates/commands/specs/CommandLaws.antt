@@ -1,5 +1,5 @@
--- What a well_formed command names and does.
---   Sound cells f      what the fields of a well_formed body keep
+-- What a well-formed command names and does.
+--   Sound cells f      what the fields of a well-formed body keep
 --   Used cells x       a cell that an operation can use
 --   by_each            a fact of a sound command, shown for each operation with what is known of its cells
 --   after f t x        a cell's value after the effect, from the values of the sender's cell, of a, of b, and of the cell
@@ -189,8 +189,8 @@ unwritten (n ∷ ns) x h =
     (λ w e. grind (arith, nat_tests), unwritten ns x p.1)
 
 -- the table after the effect
-get_d_set_at : (t : List ℕ) (i v x : ℕ) → i < length t → slice_index (slice_set t i v) x ≡ cond (x == i) v (slice_index t x)
-get_d_set_at t i v x l =
+get_or_set_at : (t : List ℕ) (i v x : ℕ) → i < length t → slice_index (slice_set t i v) x ≡ cond (x == i) v (slice_index t x)
+get_or_set_at t i v x l =
     cond_both (x == i) v (slice_index t x) (λ w. slice_index (slice_set t i v) x ≡ w)
     (λ e. rw (eqb-true x i e) (get_or-set_same t i v 0 l))
     (λ e. get_or-set_other t i x v 0 (eqb-false x i e))
@@ -216,16 +216,16 @@ close_at f t s h x =
     let moved : slice_index_or (slice_set t f.sender f.number) f.a 0 ≡ slice_index_or t f.a 0 = get_or-set_other t f.sender f.a f.number 0 (omega arith) in
     let bl : f.b < length (slice_set t f.sender f.number) = simp length-set h.b_used.in_table in
     let al : f.a < length (slice_set (slice_set t f.sender f.number) f.b (slice_index t f.a)) = simp length-set h.a_used.in_table in
-    simp (moved, get_d_set_at) (grind (arith, nat_tests))
+    simp (moved, get_or_set_at) (grind (arith, nat_tests))
 
 acted_at : (f : Command) (t : List ℕ) → Sound (length t) f → (x : ℕ) → slice_index (acted f (slice_set t f.sender f.number)) x ≡ after_acting f t x
 acted_at f t h x =
     let kept : (y : ℕ) → Used (length t) y → y < length (slice_set t f.sender f.number) = λ y u. simp length-set u.in_table in
     let there : (y : ℕ) → Used (length t) y → f.sender < length t = λ y u. omega arith in
     by_each (λ g. slice_index (acted g (slice_set t g.sender g.number)) x ≡ after_acting g t x) (length t) f h
-    (λ u. let s = there f.a u in let a = kept f.a u in simp get_d_set_at (grind (arith, nat_tests)))
+    (λ u. let s = there f.a u in let a = kept f.a u in simp get_or_set_at (grind (arith, nat_tests)))
     (λ u. close_at f t h.sender_is_one u x)
-    (λ u. let s = there f.c u.c_used in let c = kept f.c u.c_used in simp (get_or_cond, get_d_set_at) (grind (arith, nat_tests)))
+    (λ u. let s = there f.c u.c_used in let c = kept f.c u.c_used in simp (get_or_cond, get_or_set_at) (grind (arith, nat_tests)))
 
 effect_at : (f : Command) (t : List ℕ) → Sound (length t) f → (x : ℕ) → slice_index (command_effect f t) x ≡ after f t x
 effect_at f t h x =

@@ -123,5 +123,5 @@ run_each (body ∷ bodies) table = run_each bodies (command_effect (fields body)
 
 pub record OnceOnly (body table : List ℕ) : Type 0 where
   pub old_number_changes_nothing : (fields body).number ≤ slice_index table (fields body).sender → command_effect (fields body) table ≡ table
-  -- once it was run, it changes nothing any more, whatever well_formed commands are run in between
+  -- once it was run, it changes nothing any more, whatever well-formed commands are run in between
   pub never_acts_again : (cells : ℕ) → command_judged body cells ≡ Ok tt → length table ≡ cells → (between : List (List ℕ)) → AllByRecursion (λ other. command_judged other cells ≡ Ok tt) between → let later = run_each between (command_effect (fields body) table) in command_effect (fields body) later ≡ later

@@ -27,7 +27,7 @@ impl Judgement {
     }
 }
 
-// The first eight cells that a body names; a well_formed one names no more.
+// The first eight cells that a body names; a well-formed one names no more.
 fn names(heap: Global, kind: Chosen, body: &[u32]) -> Result<Vec<Name>, AllocError>
     ensures { IfOk result (λ v. v.items ≡ take 8 ((chosen_kind kind).names body.now)) }
 {

@@ -11,7 +11,7 @@ mod shelf;
 use cause::{Cause, Stop};
 use held::{Joins, Two};
 use shelf::Shelf;
-use std::io::{BufRead, BufReader};
+use std::io::Input;
 use std::process::ExitCode;
 use std::{env, fs};
 
@@ -54,12 +54,8 @@ fn run_file<C: Joins>(rt: &HostRuntime, shelf: &mut Shelf<C>, file: &str) -> Res
 }
 
 fn run_input<C: Joins>(rt: &HostRuntime, shelf: &mut Shelf<C>) -> Result<(), Stop> {
-    let input = match BufReader::new(rt.alloc(), rt.stdin()) {
-        Ok(input) => input,
-        Err(error) => return Err(Stop::outside(Cause::Input(error))),
-    };
     let mut number = 0u64;
-    for line in input.lines(rt.alloc()) {
+    for line in rt.stdin().lines(rt.alloc()) {
         number = number.saturating_add(1);
         match line {
             Ok(line) => run_line(rt, shelf, number, line.as_str())?,

@@ -16,7 +16,8 @@ pub fn number(heap: Global, text: &str) -> Result<u64, Misread> {
     }
 }
 
-fn value(text: &str) -> Option<u64> {
+// The number that digits say, in base 16 behind 0x and else in base 10.
+pub fn value(text: &str) -> Option<u64> {
     match text.as_bytes() {
         [b'0', b'x', digits @ ..] => digits_value(digits, 16),
         digits => digits_value(digits, 10),

@@ -9,7 +9,7 @@ use std::fmt;
 use work::fault::BodyFault;
 use work::name::Name;
 
-// A well_formed body, shown as its kind of work has it.
+// A well-formed body, shown as its kind of work has it.
 #[derive(Drop)]
 pub struct BodyText<'a> {
     pub kind: Chosen,

@@ -74,7 +74,7 @@ Alike ns t u = AllByRecursion (λ (n : Name). slice_index t n.cell ≡ slice_ind
 abbrev pub WithinTop : List ℕ → Type 0
 WithinTop t = (x : ℕ) → slice_index t x ≤ top
 
--- of every well_formed body at a number of cells, and of every table of so many
+-- of every well-formed body at a number of cells, and of every table of so many
 pub record Lawful (k : Kind) : Type 0 where
   pub some_named : (body : List ℕ) (cells : ℕ) → WellFormed k body cells → 1 ≤ length (k.names body)
   pub few_named : (body : List ℕ) (cells : ℕ) → WellFormed k body cells → length (k.names body) ≤ 8

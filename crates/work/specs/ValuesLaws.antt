@@ -82,7 +82,7 @@ effect_within_top (c ∷ v ∷ rest) table fits h =
     let small : v ≤ top = omega (arith, ltb-true v 536870912 more.0) in
     effect_within_top rest (slice_set table c v) more.1 (set_within_top table c v small h)
 
--- what a well_formed body keeps to
+-- what a well-formed body keeps to
 pub record Sound (body : List ℕ) (cells : ℕ) : Type 0 where
   pub some : 1 ≤ length body / 2
   pub few : length body / 2 ≤ 8

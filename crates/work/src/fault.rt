@@ -1,4 +1,4 @@
-// Why a body is no well_formed one.
+// Why a body is no well-formed one.
 ghost use Rattle.std.specs.Prelude.{◌≡◌};
 ghost use Rattle.work.specs.Faults.{cause_of};
 
