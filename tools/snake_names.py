@@ -5,7 +5,8 @@ usage: python3 tools/snake_names.py [--list]      at the top of the repository, 
 
 A name is turned where a file of specs/ or proofs/ declares it with a dash: `count-words` becomes `count_words`. So are, in
 proofs/, the labels of clauses and ghost fields of src/, which a proof spelled with a dash. Names that Rattle makes (steps,
-goals, invariants, measures) and names of the library are left. It stops where two names would fall together.
+goals, invariants, measures) and names of the library are left. It stops where two of these would fall together; --list also
+marks one that falls together with any other name of specs/ or proofs/, and comments are turned as the rest is.
 """
 import collections
 import pathlib
