@@ -12,7 +12,6 @@ use crate::memory::Memory;
 use crate::refusal::{Refusal, Unmounted};
 use crate::words::{BLANK, MOST};
 
-#[derive(Drop)]
 pub struct CountChip<M: Memory> {
     memory: M,
     ghost sound: { count_sound (M.Memory.holds memory) ≡ true },
@@ -40,7 +39,7 @@ impl<M: Memory> CountChip<M> {
     pub fn into_memory(self) -> M
         ensures { result ≡ self.memory }
     {
-        let CountChip { memory, .. } = self;
+        let CountChip { memory } = self;
         memory
     }
 

@@ -13,7 +13,6 @@ use crate::refusal::{Refusal, Unmounted};
 use crate::words::{BLANK, MOST, PAGE};
 use arrayvec::ArrayVec;
 
-#[derive(Drop)]
 pub struct PageChip<M: Memory> {
     memory: M,
     programmed: usize,
@@ -80,7 +79,11 @@ impl<M: Memory> PageChip<M> {
     pub fn into_memory(self) -> M
         ensures { result ≡ self.memory }
     {
-        let PageChip { memory, .. } = self;
+        let PageChip {
+            memory,
+            programmed: _,
+            waiting: _,
+        } = self;
         memory
     }
 }

@@ -7,7 +7,7 @@ mod tests {
     use chip::count::CountChip;
     use chip::page::PageChip;
     use chip::ram::Ram;
-    use pair::pair::Pair;
+    use pair::pair::{Pair, Unpaired};
     use std::alloc::Global;
     use std::test::Fail;
 
@@ -26,9 +26,12 @@ mod tests {
         let _ = chip.append(3);
         let before = chip.count();
         let (Ok(chip) | Err(chip)) = chip.cut();
+        let after = chip.count();
+        let second = chip.read_word(1).ok();
+        let _ = chip.into_memory();
         assert_eq!(rt; before, 3);
-        assert_eq!(rt; chip.count(), 2);
-        assert_eq!(rt; chip.read_word(1).ok(), Some(2));
+        assert_eq!(rt; after, 2);
+        assert_eq!(rt; second, Some(2));
         Ok(())
     }
 
@@ -39,14 +42,19 @@ mod tests {
             let _ = chip.append(word);
         }
         let (Ok(chip) | Err(chip)) = chip.cut();
-        assert_eq!(rt; chip.count(), 16);
+        let after = chip.count();
+        let _ = chip.into_memory();
+        assert_eq!(rt; after, 16);
         Ok(())
     }
 
     #[test]
     fn a_count_chip_refuses_a_number_past_its_words(rt: HostRuntime) -> Result<(), Fail> {
         match CountChip::mount(Ram::new(vec![in rt.alloc(); 3, 7, 8]?)) {
-            Ok(_) => Err(Fail::new("it was mounted")),
+            Ok(chip) => {
+                let _ = chip.into_memory();
+                Err(Fail::new("it was mounted"))
+            }
             Err(unmounted) => {
                 assert_eq!(rt; u8::from(unmounted.refusal), 1);
                 Ok(())
@@ -57,14 +65,40 @@ mod tests {
     #[test]
     fn a_pair_reads_through_both_chips(rt: HostRuntime) -> Result<(), Fail> {
         let heap = rt.alloc();
-        let mut pair = Pair::new(blank_page(heap, 1)?, blank_page(heap, 2)?).map_err(|_| Fail::new(
-            "two blank chips were refused",
-        ))?;
-        let _ = pair.append(5);
-        let _ = pair.append(6);
-        assert_eq!(rt; pair.read_word(1).ok(), Some(6));
-        assert_eq!(rt; pair.capacity(), 3);
-        assert_eq!(rt; pair.first().count(), 1);
-        Ok(())
+        let first = blank_page(heap, 1)?;
+        let second = match blank_page(heap, 2) {
+            Ok(second) => second,
+            Err(fail) => {
+                let _ = first.into_memory();
+                return Err(fail);
+            }
+        };
+        match Pair::new(first, second) {
+            Ok(mut pair) => {
+                let _ = pair.append(5);
+                let _ = pair.append(6);
+                let word = pair.read_word(1).ok();
+                let room = pair.capacity();
+                let (first, second) = pair.into_parts();
+                let on_first = first.count();
+                let _ = first.into_memory();
+                let _ = second.into_memory();
+                assert_eq!(rt; word, Some(6));
+                assert_eq!(rt; room, 3);
+                assert_eq!(rt; on_first, 1);
+                Ok(())
+            }
+            Err(
+                Unpaired {
+                    first,
+                    second,
+                    refusal: _,
+                },
+            ) => {
+                let _ = first.into_memory();
+                let _ = second.into_memory();
+                Err(Fail::new("two blank chips were refused"))
+            }
+        }
     }
 }

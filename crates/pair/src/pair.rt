@@ -10,7 +10,6 @@ use chip::chip::Chip;
 use chip::refusal::Refusal;
 use chip::words::{BLANK, MOST};
 
-#[derive(Drop)]
 pub struct Pair<A: Chip, B: Chip> {
     first: A,
     second: B,
@@ -18,7 +17,6 @@ pub struct Pair<A: Chip, B: Chip> {
 }
 
 // Two chips that were refused as a pair.
-#[derive(Drop)]
 pub struct Unpaired<A, B> {
     pub first: A,
     pub second: B,

@@ -3,7 +3,6 @@ ghost use Rattle.std.specs.Prelude.{◌≡◌};
 ghost use Rattle.staging.specs.declared.fault.StageFault.TheVariants.{Memory, Refused as RefusedBy};
 
 use chip::refusal::{Refusal, Unmounted};
-use pair::pair::Unpaired;
 use std::alloc::{AllocError, AllocFailed};
 use thiserror::Error;
 
@@ -36,14 +35,6 @@ impl<M: Drop> From<Unmounted<M>> for StageFault {
     ghost from_gives = { λ e r. r ≡ RefusedBy e.refusal };
 
     fn from(e: Unmounted<M>) -> StageFault {
-        StageFault::Refused(e.refusal)
-    }
-}
-
-impl<A: Drop, B: Drop> From<Unpaired<A, B>> for StageFault {
-    ghost from_gives = { λ e r. r ≡ RefusedBy e.refusal };
-
-    fn from(e: Unpaired<A, B>) -> StageFault {
         StageFault::Refused(e.refusal)
     }
 }

@@ -13,10 +13,10 @@ use chip::count::CountChip;
 use chip::page::PageChip;
 use chip::refusal::Unmounted;
 use either::Either;
-use pair::pair::Pair;
+use pair::pair::{Pair, Unpaired};
 use std::alloc::Global;
 
-pub trait Staged: Chip + Drop {
+pub trait Staged: Chip {
     // The memories below it, from the first to the last.
     ghost below: { Self → List TracedMemories };
 
@@ -39,10 +39,13 @@ pub trait Staged: Chip + Drop {
     // behind the end of `counts` as it is now.
     fn remounted(&self, heap: Global, counts: &[usize]) -> Result<Self, StageFault>
         ensures { IfOk result (λ c. (Self.Chip.accepted c ≡ finds self.now (rewound_all (below self.now) counts.now)) × (Self.Chip.settled c ≡ length (Self.Chip.accepted c))) };
+
+    // Lets go of the chip, which a generic function cannot do otherwise.
+    fn discard(self);
 }
 
 // A chip over one traced memory.
-pub trait Leaf: Chip + Drop {
+pub trait Leaf: Chip {
     // The memory below it.
     ghost under: { Self → TracedMemories };
 
@@ -54,6 +57,9 @@ pub trait Leaf: Chip + Drop {
 
     fn memory(&self) -> &Traced
         ensures { result.now ≡ under self.now };
+
+    fn into_memory(self) -> Traced
+        ensures { result ≡ under self };
 }
 
 impl Leaf for PageChip<Traced> {
@@ -68,6 +74,10 @@ impl Leaf for PageChip<Traced> {
     fn memory(&self) -> &Traced {
         self.memory()
     }
+
+    fn into_memory(self) -> Traced {
+        self.into_memory()
+    }
 }
 
 impl Leaf for CountChip<Traced> {
@@ -81,6 +91,10 @@ impl Leaf for CountChip<Traced> {
 
     fn memory(&self) -> &Traced {
         self.memory()
+    }
+
+    fn into_memory(self) -> Traced {
+        self.into_memory()
     }
 }
 
@@ -109,6 +123,10 @@ impl<C: Leaf> Staged for C {
         let before = Traced::new(heap, memory.after(heap, stores)?);
         Ok(C::on(before)?)
     }
+
+    fn discard(self) {
+        let _ = self.into_memory();
+    }
 }
 
 impl<A: Staged, B: Staged> Staged for Pair<A, B> {
@@ -136,8 +154,33 @@ impl<A: Staged, B: Staged> Staged for Pair<A, B> {
         let mid = self.first().memories().min(counts.len());
         let (before, behind) = counts.split_at(mid);
         let first = self.first().remounted(heap, before)?;
-        let second = self.second().remounted(heap, behind)?;
-        Ok(Pair::new(first, second)?)
+        let second = match self.second().remounted(heap, behind) {
+            Ok(second) => second,
+            Err(fault) => {
+                first.discard();
+                return Err(fault);
+            }
+        };
+        match Pair::new(first, second) {
+            Ok(pair) => Ok(pair),
+            Err(
+                Unpaired {
+                    first,
+                    second,
+                    refusal,
+                },
+            ) => {
+                first.discard();
+                second.discard();
+                Err(StageFault::Refused(refusal))
+            }
+        }
+    }
+
+    fn discard(self) {
+        let (first, second) = self.into_parts();
+        first.discard();
+        second.discard();
     }
 }
 
@@ -171,6 +214,13 @@ impl<A: Staged, B: Staged> Staged for Either<A, B> {
         match self {
             Either::Left(chip) => Ok(Either::Left(chip.remounted(heap, counts)?)),
             Either::Right(chip) => Ok(Either::Right(chip.remounted(heap, counts)?)),
+        }
+    }
+
+    fn discard(self) {
+        match self {
+            Either::Left(chip) => chip.discard(),
+            Either::Right(chip) => chip.discard(),
         }
     }
 }

@@ -4,8 +4,8 @@ use Rattle.staging.specs.Below.{rewound_all}
 use Rattle.staging.proofs.BelowLaws.{rewound_apart, length_rewound, take_least, drop_least}
 use Rattle.staging.proofs.staged.PairStaged.remounted.Goals as goal
 
-pub returns : goal.returns
-returns g c =
+pub returns-in-Ok-new : goal.returns-in-Ok-new
+returns-in-Ok-new g c =
     let A = g.A.Chip in
     let B = g.B.Chip in
     let S = g.A.Staged in
@@ -15,11 +15,11 @@ returns g c =
     let counts = c.args.counts.now in
     let n = length (S.below x) in
     let first = c.in_ok-first.ensures in
-    let second = c.in_ok-second.ensures in
-    let made = c.in_ok-new.ensures in
-    let p = c.in_ok-new.field-0 in
+    let second = c.in-Ok.ensures in
+    let made = c.in-Ok-new.ensures in
+    let p = c.in-Ok-new.pair in
     let f = c.in_ok-first.first in
-    let h = c.in_ok-second.second in
+    let h = c.in-Ok.second in
     let same : length (S.below c.first.result.now) ≡ n = ap (λ z. length (S.below z)) c.first.ensures in
     let least : c.min-mid.result ≡ min n (length counts) = omega (arith, c.min-mid.ensures, c.memories.ensures, same) in
     let before = c.split_at.result.0.now in
