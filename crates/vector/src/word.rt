@@ -1,7 +1,7 @@
 // A word of a log: a kind in its top three bits and a payload in the other 29.
 ghost use Rattle.std.specs.Prelude.{◌≡◌};
 ghost use Rattle.vector.specs.Format.{payload_of};
-ghost use Rattle.vector.specs.Kinds.{kind_in, number_of};
+ghost use Rattle.vector.specs.Kinds.{kind_in, number_of_kind};
 
 use crate::format::PAYLOADS;
 
@@ -29,7 +29,7 @@ impl Kind {
 
 // Part of the format: the numbers of the kinds.
 impl From<Kind> for u32 {
-    ghost from_gives = { λ kind n. n ≡ number_of kind };
+    ghost from_gives = { λ kind n. n ≡ number_of_kind kind };
 
     fn from(kind: Kind) -> u32 {
         match kind {
