@@ -5,7 +5,7 @@ use Rattle.std.proofs.lemmas.List.Sums.{length-filter}
 use Rattle.std.proofs.lemmas.List.{append_assoc, length-take-le, take_more}
 use Rattle.std.proofs.lemmas.Bool.{ltb-true, and_parts}
 use Rattle.work.specs.Kinds.{fit_payloads}
-use Rattle.logs.specs.Words.{entry_word, entry_words, fit_places}
+use Rattle.logs.specs.Words.{entry_word, entry_words}
 
 -- an entry that is 0 has no word: a list with or without one more element in front
 cond_append : (b : Bool) (w : ℕ) (xs ys zs : List ℕ) → zs ≡ xs ++ ys → cond b zs (w ∷ zs) ≡ cond b xs (w ∷ xs) ++ ys
@@ -53,11 +53,6 @@ words_next before v i now next within is more =
     ∙ ap (λ ws. ws ++ entry_words i (get_or v i 0 ∷ [])) is
     ∙ append_assoc before (entry_words 0 (take i v)) (entry_words i (get_or v i 0 ∷ []))
     ∙ ap (λ ws. before ++ ws) (sym (entry_words_next v i within))
-
-pub place_fits : (v : List ℕ) (i : ℕ) → fit_places v ≡ true → i < length v → get_or v i 0 < 67108864
-place_fits [] i h l = absurd (omega arith)
-place_fits (p ∷ v) zero h l = ltb-true p 67108864 (and_parts (ltb p 67108864) (fit_places v) h).0
-place_fits (p ∷ v) (suc i) h l = place_fits v i (and_parts (ltb p 67108864) (fit_places v) h).1 (omega arith)
 
 pub payload_fits : (b : List ℕ) (i : ℕ) → fit_payloads b ≡ true → i < length b → get_or b i 0 < 536870912
 payload_fits [] i h l = absurd (omega arith)

@@ -1,5 +1,6 @@
 -- What is read as a record are the words that the writer gives for it.
-use Rattle.std.proofs.Common.{◌≡◌, ℕ, zero, suc, ◌+◌, ◌-◌, ◌*◌, ◌/◌, ◌%◌, ◌<◌, ◌≤◌, true, false, eqb, ltb, leb, ◌⊎◌, List, [], ◌∷◌, ◌++◌, map, length, get_or, take, drop, set, replicate, Some, None, Ok, Err, Result, sym, refl, ap, ◌∙◌, subst, inl, inr, add-zero, suc-add, zero-add, arith}
+use Rattle.std.proofs.Common.{◌≡◌, ℕ, zero, suc, ◌+◌, ◌-◌, ◌*◌, ◌/◌, ◌%◌, ◌<◌, ◌≤◌, true, false, eqb, ltb, leb, ◌⊎◌, List, [], ◌∷◌, ◌++◌, map, length, get_or, take, drop, set, replicate, Some, None, Ok, Err, Result, sym, refl, ap, ◌∙◌, subst, inl, inr, add-zero, arith}
+use Rattle.std.proofs.Math.Seq.{take-add}
 use Rattle.std.proofs.lemmas.Nat.{div-add-mod'}
 use Rattle.std.proofs.lemmas.List.{append-nil, append_assoc, length-append, length-map, length-replicate, set_at, length-take-le, replicate-append-replicate, drop-drop}
 use Rattle.std.proofs.lemmas.Bool.{lt-ltb, leb-true, ltb-true, ltb-false, eqb-false, ne_eqb, and_from, and_parts, and_cases, cases_lt, cond-true, cond-false}
@@ -195,15 +196,6 @@ first_word (x ∷ ws) word read =
     some_same : (x y : ℕ) → Some x ≡ Some y → x ≡ y
     some_same x y h = cc
 
-take_none : (k : ℕ) → ◌≡◌ {A = List ℕ} (take k []) []
-take_none zero = refl
-take_none (suc k) = refl
-
-take_both : (n m : ℕ) (xs : List ℕ) → take n xs ++ take m (drop n xs) ≡ take (n + m) xs
-take_both zero m xs = ap (λ k. take k xs) (sym (zero-add m))
-take_both (suc n) m [] = take_none m ∙ sym (take_none (suc n + m))
-take_both (suc n) m (x ∷ xs) = ap (λ ys. x ∷ ys) (take_both n m xs) ∙ ap (λ k. take k (x ∷ xs)) (sym (suc-add n m))
-
 sound_fits : (o : Origin) (chip : ℕ) (ps : List ℕ) → Sound o chip ps → fit_places ps ≡ true
 sound_fits o chip [] sound = refl
 sound_fits o chip (p ∷ ps) sound = and_from (ltb p 67108864) (fit_places ps) (lt-ltb p 67108864 sound.0.0) (sound_fits o (suc chip) ps sound.1)
@@ -241,7 +233,7 @@ written work cells o ws v b word h first head entries payloads good =
     let all-long : length (es ++ bs) ≡ h.entries + h.payloads = omega (arith, length-append es bs, length-map b body_word) in
     let behind : take (length (es ++ bs)) xs ≡ es ++ bs =
     ap (λ n. take n xs) all-long
-    ∙ sym (ap (λ ys. ys ++ bs) e-words ∙ ap (λ ys. take h.entries xs ++ ys) b-words ∙ take_both h.entries h.payloads xs) in
+    ∙ sym (ap (λ ys. ys ++ bs) e-words ∙ ap (λ ys. take h.entries xs ++ ys) b-words ∙ sym (take-add h.entries h.payloads xs)) in
     let head-is : word ≡ head_word (length es) (length b) =
     sym (ap (λ n. head_word n (length b)) e-long ∙ ap (head_word h.entries) b-long ∙ head.is) in
     let of : ℕ → Found = λ n. record { end = o.start + n; vector = v; body = b } in

@@ -23,7 +23,7 @@ pub enum Cause {
     OwnEntry,
     #[error("no body word where one should stand")]
     NoPayload,
-    #[error("the body is bad")]
+    #[error("the body is bad, cause {number}: {fault}", number = u8::from(*.0), fault = .0)]
     Body(BodyFault),
 }
 

@@ -1,7 +1,7 @@
 // The reader takes the words of one record in turn, and stops at the first that is unsound.
 ghost use Rattle.std.specs.Prelude.{◌≡◌, ◌+◌, ◌≤◌, [], drop, Ok, OnOk};
 ghost use Rattle.vector.specs.Format.{payload_of};
-ghost use Rattle.vector.specs.Kinds.{number_of};
+ghost use Rattle.vector.specs.Kinds.{number_of_kind};
 ghost use Rattle.vector.specs.Vectors.{zeros};
 ghost use Rattle.logs.specs.RoundTrip.{OnlyWritten};
 ghost use Rattle.logs.specs.Reading.{and_then, of_kind, fault_of, head_of, entry_of, payload_in, word_at, entries_read, payloads_read, body_fault, parts_read, record_read, read_answer, in_body, in_record};
@@ -24,7 +24,7 @@ fn fault_at(origin: Origin, place: usize, cause: Cause) -> RecordFault
 
 // The payload of a word of this kind; a word of another kind is `none`.
 fn payload_of_kind(word: u32, expected: Kind, none: Cause) -> Result<u32, Cause>
-    ensures { result ≡ of_kind (number_of expected) none word (Ok (payload_of word)) }
+    ensures { result ≡ of_kind (number_of_kind expected) none word (Ok (payload_of word)) }
 {
     match Kind::of(word) {
         None => Err(Cause::UnknownKind),
@@ -193,6 +193,7 @@ fn read_record<W: Work>(work: &W, cells: u32, origin: Origin, words: &[u32]) -> 
 }
 
 // What a log has where a record should start: a record, none since the words run out, or a fault.
+#[tactic(auto, using(crate::proofs::WrittenOnly::only_written))]
 pub fn read<W: Work>(
     work: &W,
     cells: u32,

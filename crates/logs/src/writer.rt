@@ -84,6 +84,7 @@ fn laid_out(vector: [u32; 8], body: &[u32]) -> Words
 }
 
 // The words of a record. Read again, they are its vector and its body.
+#[tactic(auto, using(crate::proofs::ReadBack::written_reads_back))]
 pub fn write(vector: [u32; 8], body: &[u32]) -> Result<Words, Unwritable>
     ensures answer { result ≡ write_answer vector body.now }
     ensures reads_back { is_ok result ≡ true → ReadsBack vector body.now }
