@@ -57,8 +57,8 @@ impl Work for Values {
     }
 
     fn name(&self, body: &[u32], index: usize) -> Option<Name> {
-        let [cell, _] = *pairs(body).get(index)?;
-        Some(Name { cell, writes: true })
+        let [cell, _] = pairs(body).get(index)?;
+        Some(Name::writing(*cell))
     }
 
     fn run(&self, body: &[u32], table: &mut [u32]) {
