@@ -72,7 +72,7 @@ pub struct Reader<'a> {
 }
 
 impl<'a> Reader<'a> {
-    ghost use Rattle.logs.specs.Readers.{next_of, IsPart, moved, passed};
+    ghost use Rattle.logs.specs.Readers.{next_of, IsPart, vector_of, body_of, moved, passed};
 
     pub fn new(origin: Origin, words: &'a [u32]) -> Reader<'a>
         ensures words { result.words.now ≡ words.now }
@@ -132,7 +132,7 @@ impl<'a> Reader<'a> {
 
     // The vector of so many vector words.
     fn vector(&mut self, count: u32) -> Result<[u32; 8], Stop>
-        ensures answer { result ≡ entries_read self.old.origin (self.old.origin.start + self.old.at) 0 zeros count (drop self.old.at self.old.words.now) }
+        ensures answer { result ≡ vector_of self.old count }
         ensures after { OnOk result (self.new ≡ moved self.old count) }
     {
         let mut vector = [0; 8];
@@ -148,7 +148,7 @@ impl<'a> Reader<'a> {
     // The body of so many body words.
     fn body(&mut self, count: u32) -> Result<Body, Stop>
         requires { count ≤ 16 }
-        ensures answer { result ≡ and_then (payloads_read self.old.origin (self.old.origin.start + self.old.at) [] count (drop self.old.at self.old.words.now)) (λ b. Ok (in_body b)) }
+        ensures answer { result ≡ body_of self.old count }
         ensures after { OnOk result (self.new ≡ moved self.old count) }
     {
         let mut body = Body::new();
