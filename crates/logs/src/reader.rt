@@ -1,10 +1,9 @@
 // The reader takes the words of one record in turn, and stops at the first that is unsound.
-ghost use Rattle.std.specs.Prelude.{◌≡◌, ◌+◌, ◌≤◌, [], drop, Ok, OnOk};
+ghost use Rattle.std.specs.Prelude.{◌≡◌, ◌≤◌, Ok, OnOk};
 ghost use Rattle.vector.specs.Format.{payload_of};
 ghost use Rattle.vector.specs.Kinds.{number_of_kind};
-ghost use Rattle.vector.specs.Vectors.{zeros};
 ghost use Rattle.logs.specs.RoundTrip.{OnlyWritten};
-ghost use Rattle.logs.specs.Reading.{and_then, of_kind, fault_of, head_of, entry_of, payload_in, word_at, entries_read, payloads_read, body_fault, parts_read, record_read, read_answer, in_body, in_record};
+ghost use Rattle.logs.specs.Reading.{and_then, of_kind, fault_of, head_of, entry_of, payload_in, body_fault, parts_read, record_read, read_answer, in_record};
 
 use crate::fault::{Cause, RecordFault, Stop};
 use crate::record::{Body, Entry, Head, Origin, Record};
@@ -12,7 +11,7 @@ use vector::format::{BODY_STEP, CHIPS, PAYLOADS_OF_A_BODY, PLACES};
 use vector::word::{Kind, payload};
 use work::kind::Work;
 
-fn fault_at(origin: Origin, place: usize, cause: Cause) -> RecordFault
+fn fault_of(origin: Origin, place: usize, cause: Cause) -> RecordFault
     ensures { result ≡ fault_of origin place cause }
 {
     RecordFault {
@@ -86,22 +85,15 @@ impl<'a> Reader<'a> {
         }
     }
 
-    // The next word, if there is one.
-    fn next_word(&self) -> Option<u32>
-        ensures { result ≡ word_at self.now.words.now self.now.at }
-    {
-        self.words.get(self.at).copied()
-    }
-
     // Passes the next word if it is judged sound; else it is a fault there.
     fn part<T, F: FnOnce(u32) -> Result<T, Cause>>(&mut self, judge: F) -> Result<T, Stop>
         requires { F.IsAlwaysCallable judge }
         ensures answer { IsPart self.old (F.post judge) result }
         ensures after { self.new ≡ passed self.old result }
     {
-        let word = self.next_word().ok_or(Stop::RunsOut)?;
+        let word = *self.words.get(self.at).ok_or(Stop::RunsOut)?;
         let place = self.origin.start as usize + self.at;
-        let part = judge(word).map_err(|cause| fault_at(self.origin, place, cause))?;
+        let part = judge(word).map_err(|cause| fault_of(self.origin, place, cause))?;
         self.at += 1;
         Ok(part)
     }
@@ -188,7 +180,7 @@ fn read_record<W: Work>(work: &W, cells: u32, origin: Origin, words: &[u32]) -> 
 {
     let record = read_parts(origin, words)?;
     let head = origin.start as usize;
-    judge_body(work, cells, &record.body).map_err(|cause| fault_at(origin, head, cause))?;
+    judge_body(work, cells, &record.body).map_err(|cause| fault_of(origin, head, cause))?;
     Ok(record)
 }
 
