@@ -1,8 +1,8 @@
 -- Undoing the noted stores one by one, from the last back.
-use Rattle.std.specs.Prelude.{◌≡◌, ℕ, List, [], ◌∷◌, ◌++◌, set, slice_index_or, slice_set, refl}
+use Rattle.std.specs.Prelude.{◌≡◌, ℕ, List, [], ◌∷◌, ◌++◌, set, refl}
 use Rattle.std.proofs.Common.{sym, ap, ◌∙◌}
-use Rattle.std.proofs.lemmas.List.{append_assoc, set-set, set-get_or}
-use Rattle.staging.specs.Rewind.{note_of, undone, noted_moments, Noted}
+use Rattle.std.proofs.lemmas.List.{append_assoc}
+use Rattle.staging.specs.Rewind.{undone, noted_moments, Noted}
 use Rattle.staging.specs.declared.traced.Note.{Note}
 
 -- notes behind notes: the later ones are undone first
@@ -21,8 +21,3 @@ noted_joined xs ys a b c na nb nc here more =
     let second = more.0 in
     let back : b ≡ undone c second = more.2 in
     (first ++ second, more.1 ∙ ap (λ n. n ++ second) here.1 ∙ append_assoc na first second, here.2 ∙ ap (λ w. undone w first) back ∙ sym (undone-append c first second), ap (λ l. l ++ ys) here.3 ∙ ap (λ w. noted_moments w first ++ ys) back ∙ ap (λ l. noted_moments (undone c second) first ++ l) more.3 ∙ sym (moments_joined c first second))
-
--- a store and its note
-pub store_noted : (words : List ℕ) (place word before : ℕ) → before ≡ slice_index_or words place 4294967295 → words ≡ undone (slice_set words place word) (note_of place before ∷ [])
-store_noted words place word before read =
-    sym (set-set words place word before ∙ ap (set words place) read ∙ set-get_or words place 4294967295)

@@ -15,6 +15,7 @@ pub enum StageFault {
     Refused(Refusal),
 }
 
+// By hand, since clauses name the fault that a `?` makes, and of what a derive writes they cannot.
 impl From<AllocError> for StageFault {
     ghost from_gives = { λ _ r. r ≡ Memory };
 
