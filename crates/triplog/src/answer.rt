@@ -7,7 +7,6 @@ use wording::show::InWords;
 #[derive(Drop)]
 pub enum Answer {
     Done,
-    Refused(Refusal),
     // how many words are accepted, of how many there is room for
     Level(u32, u32),
     Word(u32),
@@ -16,14 +15,34 @@ pub enum Answer {
     Files(usize),
     NoChips,
     Text(String),
+}
+
+// Why a call does nothing; the script goes on.
+#[derive(Clone, Copy)]
+pub enum Denial {
+    Refused(Refusal),
     NotWritten(Unwritable),
 }
 
-// An answer, and the call that it is given to.
+impl From<Refusal> for Denial {
+    fn from(refusal: Refusal) -> Denial {
+        Denial::Refused(refusal)
+    }
+}
+
+impl From<Unwritable> for Denial {
+    fn from(why: Unwritable) -> Denial {
+        Denial::NotWritten(why)
+    }
+}
+
+pub type Outcome = Result<Answer, Denial>;
+
+// What is told of a call, and the call.
 #[derive(Drop)]
 pub struct Reply {
     pub call: String,
-    pub answer: Answer,
+    pub answer: Outcome,
 }
 
 pub fn meaning(refusal: Refusal) -> &'static str {
@@ -37,38 +56,54 @@ pub fn meaning(refusal: Refusal) -> &'static str {
     }
 }
 
-fn show_words<W: fmt::Write>(words: &[u32], f: &mut fmt::Formatter<W>) -> fmt::Result {
-    if words.is_empty() {
-        return write!(f, " none");
+impl fmt::Display for Denial {
+    fn fmt<W: fmt::Write>(&self, f: &mut fmt::Formatter<W>) -> fmt::Result {
+        match self {
+            Denial::Refused(refusal) => {
+                let number = refusal.number();
+                let words = meaning(*refusal);
+                write!(f, "refused {number}: {words}")
+            }
+            Denial::NotWritten(why) => {
+                let why = InWords(*why);
+                write!(f, "not written: {why}")
+            }
+        }
     }
-    for word in words {
+}
+
+fn show_words<W: fmt::Write>(words: &[u32], f: &mut fmt::Formatter<W>) -> fmt::Result {
+    let [first, rest @ ..] = words else {
+        return write!(f, "none");
+    };
+    write!(f, "{first:08x}")?;
+    for word in rest {
         write!(f, " {word:08x}")?;
     }
     Ok(())
 }
 
+impl fmt::Display for Answer {
+    fn fmt<W: fmt::Write>(&self, f: &mut fmt::Formatter<W>) -> fmt::Result {
+        match self {
+            Answer::Done => write!(f, "ok"),
+            Answer::Level(words, room) => write!(f, "{words} of {room} words"),
+            Answer::Word(word) => write!(f, "{word:08x}"),
+            Answer::Number(number) => write!(f, "{number}"),
+            Answer::Words(words) => show_words(words.as_slice(), f),
+            Answer::Files(files) => write!(f, "{files} written"),
+            Answer::NoChips => write!(f, "no chips"),
+            Answer::Text(text) => write!(f, "{text}"),
+        }
+    }
+}
+
 impl fmt::Display for Reply {
     fn fmt<W: fmt::Write>(&self, f: &mut fmt::Formatter<W>) -> fmt::Result {
         let call = &self.call;
-        write!(f, "{call}:")?;
         match &self.answer {
-            Answer::Done => write!(f, " ok"),
-            Answer::Refused(refusal) => {
-                let number = refusal.number();
-                let words = meaning(*refusal);
-                write!(f, " refused {number}: {words}")
-            }
-            Answer::Level(words, room) => write!(f, " {words} of {room} words"),
-            Answer::Word(word) => write!(f, " {word:08x}"),
-            Answer::Number(number) => write!(f, " {number}"),
-            Answer::Words(words) => show_words(words.as_slice(), f),
-            Answer::Files(files) => write!(f, " {files} written"),
-            Answer::NoChips => write!(f, " no chips"),
-            Answer::Text(text) => write!(f, " {text}"),
-            Answer::NotWritten(why) => {
-                let why = InWords(*why);
-                write!(f, " not written: {why}")
-            }
+            Ok(answer) => write!(f, "{call}: {answer}"),
+            Err(denial) => write!(f, "{call}: {denial}"),
         }
     }
 }

@@ -1,5 +1,6 @@
 // A chip of any shape that the program can hold, over memories that note their stores.
-use crate::answer::Answer;
+use crate::answer::{Answer, Outcome};
+use crate::cause::Cause;
 use crate::script::{Call, Kind};
 use chip::chip::Chip;
 use chip::count::CountChip;
@@ -19,9 +20,7 @@ pub type Two = Either<Leaf, Pair<Leaf, Leaf>>;
 // Chips of one type, of which two make a pair. The program is written over such a type, and not over the one
 // that it uses, since what is to be proved of a function grows with the types that it names.
 pub trait Joins: Staged {
-    fn of_page(chip: PageChip<Traced>) -> Self;
-
-    fn of_count(chip: CountChip<Traced>) -> Self;
+    fn of_leaf(leaf: Leaf) -> Self;
 
     // Two chips that could be held at a lower type are paired there, so that the pair can be paired again.
     fn join(
@@ -31,12 +30,8 @@ pub trait Joins: Staged {
 }
 
 impl Joins for Either<PageChip<Traced>, CountChip<Traced>> {
-    fn of_page(chip: PageChip<Traced>) -> Leaf {
-        Either::Left(chip)
-    }
-
-    fn of_count(chip: CountChip<Traced>) -> Leaf {
-        Either::Right(chip)
+    fn of_leaf(leaf: Leaf) -> Leaf {
+        leaf
     }
 
     fn join(
@@ -48,12 +43,8 @@ impl Joins for Either<PageChip<Traced>, CountChip<Traced>> {
 }
 
 impl<C: Joins> Joins for Either<C, Pair<C, C>> {
-    fn of_page(chip: PageChip<Traced>) -> Either<C, Pair<C, C>> {
-        Either::Left(C::of_page(chip))
-    }
-
-    fn of_count(chip: CountChip<Traced>) -> Either<C, Pair<C, C>> {
-        Either::Left(C::of_count(chip))
+    fn of_leaf(leaf: Leaf) -> Either<C, Pair<C, C>> {
+        Either::Left(C::of_leaf(leaf))
     }
 
     fn join(
@@ -84,10 +75,7 @@ impl<C: Joins> Joins for Either<C, Pair<C, C>> {
 }
 
 fn joined<C: Staged>(first: C, second: C) -> Result<Either<C, Pair<C, C>>, Unpaired<C, C>> {
-    match Pair::new(first, second) {
-        Ok(pair) => Ok(Either::Right(pair)),
-        Err(back) => Err(back),
-    }
+    Pair::new(first, second).map(Either::Right)
 }
 
 // A chip, or a pair of such chips, behind a box, since a value of that type is large.
@@ -102,21 +90,6 @@ impl<C: Joins> Drop for Held<C> {
     }
 }
 
-// Why two chips make no pair.
-#[derive(Drop)]
-pub enum Unjoined<C: Joins> {
-    // they stay as they were
-    Refused(Held<C>, Held<C>, Refusal),
-    TooDeep,
-    Memory,
-}
-
-impl<C: Joins> From<AllocError> for Unjoined<C> {
-    fn from(_e: AllocError) -> Unjoined<C> {
-        Unjoined::Memory
-    }
-}
-
 impl<C: Joins> Held<C> {
     fn boxed(heap: Global, chip: Either<C, Pair<C, C>>) -> Result<Held<C>, AllocError> {
         match Box::new(heap, chip) {
@@ -128,9 +101,53 @@ impl<C: Joins> Held<C> {
         }
     }
 
-    fn two_boxed(heap: Global, first: C, second: C) -> Result<(Held<C>, Held<C>), AllocError> {
+    pub fn mounted(heap: Global, kind: Kind, memory: Traced) -> Result<Held<C>, StageFault> {
+        let leaf = match kind {
+            Kind::Page => PageChip::mount(memory).map(Either::Left),
+            Kind::Count => CountChip::mount(memory).map(Either::Right),
+        };
+        match leaf {
+            Ok(leaf) => Ok(Held::boxed(heap, Either::Left(C::of_leaf(leaf)))?),
+            Err(Unmounted { memory: _, refusal }) => Err(StageFault::Refused(refusal)),
+        }
+    }
+
+    // Two chips that are refused as a pair stay as they were.
+    pub fn paired(
+        heap: Global,
+        first: Held<C>,
+        second: Held<C>,
+    ) -> Result<Result<Held<C>, Unpaired<Held<C>, Held<C>>>, Cause> {
+        let Held { chip: first } = first;
+        let Held { chip: second } = second;
+        match (Box::into_inner(first), Box::into_inner(second)) {
+            (Either::Left(first), Either::Left(second)) => match C::join(first, second) {
+                Ok(chip) => Ok(Ok(Held::boxed(heap, chip)?)),
+                Err(back) => Ok(Err(Held::unpaired(heap, back)?)),
+            },
+            (first, second) => {
+                first.discard();
+                second.discard();
+                Err(Cause::TooDeep)
+            }
+        }
+    }
+
+    fn unpaired(
+        heap: Global,
+        back: Unpaired<C, C>,
+    ) -> Result<Unpaired<Held<C>, Held<C>>, AllocError> {
+        let Unpaired {
+            first,
+            second,
+            refusal,
+        } = back;
         match Held::boxed(heap, Either::Left(first)) {
-            Ok(first) => Ok((first, Held::boxed(heap, Either::Left(second))?)),
+            Ok(first) => Ok(Unpaired {
+                first,
+                second: Held::boxed(heap, Either::Left(second))?,
+                refusal,
+            }),
             Err(error) => {
                 second.discard();
                 Err(error)
@@ -138,56 +155,12 @@ impl<C: Joins> Held<C> {
         }
     }
 
-    pub fn mounted(heap: Global, kind: Kind, memory: Traced) -> Result<Held<C>, StageFault> {
-        let leaf = match kind {
-            Kind::Page => match PageChip::mount(memory) {
-                Ok(chip) => C::of_page(chip),
-                Err(Unmounted { memory: _, refusal }) => return Err(StageFault::Refused(refusal)),
-            },
-            Kind::Count => match CountChip::mount(memory) {
-                Ok(chip) => C::of_count(chip),
-                Err(Unmounted { memory: _, refusal }) => return Err(StageFault::Refused(refusal)),
-            },
-        };
-        Ok(Held::boxed(heap, Either::Left(leaf))?)
-    }
-
-    pub fn paired(heap: Global, first: Held<C>, second: Held<C>) -> Result<Held<C>, Unjoined<C>> {
-        let Held { chip: first } = first;
-        let Held { chip: second } = second;
-        match (Box::into_inner(first), Box::into_inner(second)) {
-            (Either::Left(first), Either::Left(second)) => match C::join(first, second) {
-                Ok(chip) => Ok(Held::boxed(heap, chip)?),
-                Err(
-                    Unpaired {
-                        first,
-                        second,
-                        refusal,
-                    },
-                ) => {
-                    let (first, second) = Held::two_boxed(heap, first, second)?;
-                    Err(Unjoined::Refused(first, second, refusal))
-                }
-            },
-            (first, second) => {
-                first.discard();
-                second.discard();
-                Err(Unjoined::TooDeep)
-            }
-        }
-    }
-
-    pub fn make(&mut self, call: Call) -> Answer {
+    pub fn make(&mut self, call: Call) -> Outcome {
         match call {
-            Call::Append(word) => match self.chip.append(word) {
-                Ok(()) => Answer::Done,
-                Err(refusal) => Answer::Refused(refusal),
-            },
-            Call::Settle => {
-                self.chip.settle();
-                Answer::Done
-            }
+            Call::Append(word) => self.chip.append(word)?,
+            Call::Settle => self.chip.settle(),
         }
+        Ok(Answer::Done)
     }
 
     pub fn level(&self) -> Answer {
@@ -202,22 +175,16 @@ impl<C: Joins> Held<C> {
         self.chip.capacity()
     }
 
-    pub fn read(&self, place: u32) -> Answer {
-        match self.chip.read_word(place) {
-            Ok(word) => Answer::Word(word),
-            Err(refusal) => Answer::Refused(refusal),
-        }
+    pub fn read(&self, place: u64) -> Outcome {
+        // No chip has so many words, so a place past this one gets the same answer.
+        let place = u32::try_from(place).unwrap_or(u32::MAX);
+        Ok(Answer::Word(self.chip.read_word(place)?))
     }
 
     pub fn words(&self, heap: Global) -> Result<Vec<u32>, StageFault> {
-        let mut words = Vec::new(heap);
-        for place in 0..self.chip.count() {
-            match self.chip.read_word(place) {
-                Ok(word) => words.push(word)?,
-                Err(refusal) => return Err(StageFault::Refused(refusal)),
-            }
-        }
-        Ok(words)
+        (0..self.chip.count())
+            .map(|place| self.chip.read_word(place).map_err(StageFault::Refused))
+            .try_collect(heap)
     }
 
     pub fn stores(&self, heap: Global) -> Result<Vec<usize>, StageFault> {

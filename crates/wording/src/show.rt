@@ -16,13 +16,6 @@ pub struct BodyText<'a> {
     pub body: &'a [u32],
 }
 
-// The places of the first so many chips.
-#[derive(Clone, Copy)]
-pub struct VectorText {
-    pub chips: u32,
-    pub vector: [u32; 8],
-}
-
 // A value of another crate, shown in words.
 #[derive(Clone, Copy)]
 pub struct InWords<T>(pub T);
@@ -37,12 +30,10 @@ impl fmt::Display for BodyText<'_> {
 }
 
 fn show_values<W: fmt::Write>(body: &[u32], f: &mut fmt::Formatter<W>) -> fmt::Result {
-    let mut before = "SET";
-    for pair in body.chunks_exact(2) {
-        let cell = pair[0];
-        let value = pair[1];
+    let (pairs, _) = body.as_chunks::<2>();
+    for (index, [cell, value]) in pairs.iter().enumerate() {
+        let before = if index == 0 { "SET" } else { "," };
         write!(f, "{before} cell {cell} to {value}")?;
-        before = ",";
     }
     Ok(())
 }
@@ -65,19 +56,6 @@ fn show_command<W: fmt::Write>(body: &[u32], f: &mut fmt::Formatter<W>) -> fmt::
     let sender = command.sender;
     let number = command.number;
     write!(f, ", sender {sender}, number {number}")
-}
-
-impl fmt::Display for VectorText {
-    fn fmt<W: fmt::Write>(&self, f: &mut fmt::Formatter<W>) -> fmt::Result {
-        write!(f, "[")?;
-        for (chip, place) in self.vector.iter().enumerate().take(self.chips as usize) {
-            if chip > 0 {
-                write!(f, ", ")?;
-            }
-            write!(f, "{place}")?;
-        }
-        write!(f, "]")
-    }
 }
 
 impl fmt::Display for InWords<Name> {
