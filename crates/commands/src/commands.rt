@@ -1,22 +1,16 @@
 // Commands: a body is three payloads, an operation with its sender and number, cells, and an amount.
-ghost use Rattle.std.specs.Prelude.{◌≡◌, [], ◌∷◌};
-ghost use Rattle.work.specs.Kinds.{nth, writing as named_for_writing, reading as named_for_reading};
-ghost use Rattle.commands.specs.Commands.{commands, fields, fit_fields, body_of, FieldsGivenBack, above_latest, command_effect, acted, is_operation, unused_are_zero, usable as can_use, cells_there, cells_apart, placed, OnceOnly};
+ghost use Rattle.std.specs.Prelude.{◌≡◌, ◌<◌, length};
+ghost use Rattle.commands.specs.Commands.{commands, fields, fit_fields, body_of, FieldsGivenBack, above_latest, command_effect, acted, unused_are_zero, usable, cells_there, cells_apart, placed, command_names, OnceOnly};
 ghost use Rattle.commands.specs.CommandLaws.{commands_lawful};
 
+use crate::operation::Operation;
+use arrayvec::ArrayVec;
 use vector::format::PAYLOADS;
 use work::fault::BodyFault;
 use work::kind::Work;
 use work::limits::TOP;
 use work::name::Name;
 use work::table::{payloads_fit, store, value};
-
-// Part of the format: the operations.
-pub const ADD: u32 = 1;
-
-pub const CLOSE: u32 = 2;
-
-pub const LATCH: u32 = 3;
 
 // Part of the format. The first payload has the number in its low 23 bits, the sender in the three above, then the operation.
 pub const OPERATION_STEP: u32 = 0x0400_0000;
@@ -50,6 +44,7 @@ pub struct Command {
 #[derive(Clone, Copy)]
 pub struct Commands;
 
+// `of` and `body` are no From and TryFrom: a body of any length has fields, and of fields that do not fit no error says more.
 impl Command {
     // The fields of a body's first three payloads; one that is missing counts as 0.
     pub fn of(body: &[u32]) -> Command
@@ -99,19 +94,13 @@ impl Command {
             && self.amount < PAYLOADS
     }
 
-    fn is_operation(self) -> bool
-        ensures { result ≡ is_operation self }
-    {
-        matches!(self.operation, ADD | CLOSE | LATCH)
-    }
-
     fn unused_are_zero(self) -> bool
         ensures { result ≡ unused_are_zero self }
     {
         self.spare == 0
-            && match self.operation {
-                ADD => self.b == 0 && self.c == 0,
-                CLOSE => self.c == 0 && self.amount == 0,
+            && match Operation::try_from(self.operation) {
+                Ok(Operation::Add) => self.b == 0 && self.c == 0,
+                Ok(Operation::Close) => self.c == 0 && self.amount == 0,
                 _ => true,
             }
     }
@@ -120,9 +109,9 @@ impl Command {
         ensures { result ≡ cells_there cells self }
     {
         usable(cells, self.a)
-            && match self.operation {
-                CLOSE => usable(cells, self.b),
-                LATCH => usable(cells, self.b) && usable(cells, self.c),
+            && match Operation::try_from(self.operation) {
+                Ok(Operation::Close) => usable(cells, self.b),
+                Ok(Operation::Latch) => usable(cells, self.b) && usable(cells, self.c),
                 _ => true,
             }
     }
@@ -130,11 +119,33 @@ impl Command {
     fn cells_are_apart(self) -> bool
         ensures { result ≡ cells_apart self }
     {
-        match self.operation {
-            CLOSE => self.a != self.b,
-            LATCH => self.a != self.b && self.a != self.c && self.b != self.c,
+        match Operation::try_from(self.operation) {
+            Ok(Operation::Close) => self.a != self.b,
+            Ok(Operation::Latch) => self.a != self.b && self.a != self.c && self.b != self.c,
             _ => true,
         }
+    }
+
+    // The sender's cell is below every cell that an operation can use, so it comes first.
+    fn names(self) -> ArrayVec<Name, 4>
+        ensures { result.items ≡ command_names self }
+    {
+        let mut names = ArrayVec::new();
+        match Operation::try_from(self.operation) {
+            Ok(Operation::Add) => place(&mut names, Name::writing(self.a)),
+            Ok(Operation::Close) => {
+                place(&mut names, Name::writing(self.b));
+                place(&mut names, Name::writing(self.a));
+            }
+            Ok(Operation::Latch) => {
+                place(&mut names, Name::writing(self.c));
+                place(&mut names, Name::reading(self.b));
+                place(&mut names, Name::reading(self.a));
+            }
+            Err(_) => {}
+        }
+        names.insert(0, Name::writing(self.sender));
+        names
     }
 
     // Whether the number is above the latest of its sender.
@@ -149,64 +160,39 @@ impl Command {
         ensures { table.new ≡ acted self table.old }
     {
         let a = value(table, self.a);
-        match self.operation {
-            ADD => store(table, self.a, a.saturating_add(self.amount).min(TOP)),
-            CLOSE => {
+        match Operation::try_from(self.operation) {
+            Ok(Operation::Add) => store(table, self.a, a.saturating_add(self.amount).min(TOP)),
+            Ok(Operation::Close) => {
                 store(table, self.b, a);
                 store(table, self.a, 0);
             }
-            LATCH => {
+            Ok(Operation::Latch) => {
                 if value(table, self.b) >= self.amount {
                     store(table, self.c, a);
                 }
             }
-            _ => {}
+            Err(_) => {}
         }
     }
 }
 
 // A cell that the table has and that is not a sender's.
 fn usable(cells: u32, cell: u32) -> bool
-    ensures { result ≡ can_use cells cell }
+    ensures { result ≡ usable cells cell }
 {
-    cell >= SENDERS && cell < cells
+    (SENDERS..cells).contains(&cell)
 }
 
-fn reading(cell: u32) -> Name
-    ensures { result ≡ named_for_reading cell }
+// Puts a name into its place among rising ones.
+fn place(names: &mut ArrayVec<Name, 4>, name: Name)
+    requires { length names.old.items < 4 }
+    ensures { names.new.items ≡ placed name names.old.items }
 {
-    Name {
-        cell,
-        writes: false,
-    }
-}
-
-fn writing(cell: u32) -> Name
-    ensures { result ≡ named_for_writing cell }
-{
-    Name { cell, writes: true }
-}
-
-fn of_two(x: Name, y: Name, index: usize) -> Option<Name>
-    ensures { result ≡ nth (placed x (y ∷ [])) index }
-{
-    match (index, x.cell < y.cell) {
-        (0, true) | (1, false) => Some(x),
-        (0, false) | (1, true) => Some(y),
-        _ => None,
-    }
-}
-
-fn of_three(x: Name, y: Name, z: Name, index: usize) -> Option<Name>
-    ensures { result ≡ nth (placed x (placed y (z ∷ []))) index }
-{
-    let (low, high) = if y.cell < z.cell { (y, z) } else { (z, y) };
-    match (index, x.cell < low.cell, x.cell < high.cell) {
-        (0, true, _) | (1, false, true) | (2, false, false) => Some(x),
-        (0, false, _) | (1, true, _) => Some(low),
-        (1, false, false) | (2, _, _) => Some(high),
-        _ => None,
-    }
+    let place = names
+        .iter()
+        .position(|other| name.cell < other.cell)
+        .unwrap_or(names.len());
+    names.insert(place, name);
 }
 
 impl Work for Commands {
@@ -215,43 +201,31 @@ impl Work for Commands {
     ghost lawful = { λ s. commands_lawful };
 
     fn judge(&self, body: &[u32], cells: u32) -> Result<(), BodyFault> {
-        let command = Command::of(body);
         if body.len() != 3 || !payloads_fit(body) {
-            Err(BodyFault::Length)
-        } else if !command.is_operation() {
-            Err(BodyFault::Operation)
-        } else if command.number == 0 {
-            Err(BodyFault::NumberZero)
-        } else if !command.unused_are_zero() {
-            Err(BodyFault::UnusedField)
-        } else if !command.cells_are_there(cells) {
-            Err(BodyFault::NoSuchCell)
-        } else if !command.cells_are_apart() {
-            Err(BodyFault::CellOrder)
-        } else {
-            Ok(())
+            return Err(BodyFault::Length);
         }
-    }
-
-    // The sender's cell is below every cell that an operation can use, so it comes first.
-    fn name(&self, body: &[u32], index: usize) -> Option<Name> {
         let command = Command::of(body);
-        if index == 0 {
-            return Some(writing(command.sender));
+        Operation::try_from(command.operation)?;
+        if command.number == 0 {
+            return Err(BodyFault::NumberZero);
         }
-        match command.operation {
-            ADD if index == 1 => Some(writing(command.a)),
-            CLOSE => of_two(writing(command.a), writing(command.b), index - 1),
-            LATCH => of_three(
-                reading(command.a),
-                reading(command.b),
-                writing(command.c),
-                index - 1,
-            ),
-            _ => None,
+        if !command.unused_are_zero() {
+            return Err(BodyFault::UnusedField);
         }
+        if !command.cells_are_there(cells) {
+            return Err(BodyFault::NoSuchCell);
+        }
+        if !command.cells_are_apart() {
+            return Err(BodyFault::CellOrder);
+        }
+        Ok(())
     }
 
+    fn name(&self, body: &[u32], index: usize) -> Option<Name> {
+        Command::of(body).names().get(index).copied()
+    }
+
+    #[tactic(auto, using(crate::specs::CommandLaws::once_only))]
     fn run(&self, body: &[u32], table: &mut [u32])
         ensures effect { table.new ≡ command_effect (fields body.now) table.old }
         ensures once_only { OnceOnly body.now table.old }

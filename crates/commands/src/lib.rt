@@ -2,6 +2,9 @@
 //
 //     Commands.judge(&body, 256)?;
 //     Commands.run(&body, &mut table);
+//
+// `commands` has the bodies and the kind of work, `operation` what a command does.
 #![tactic(auto)]
 
 pub mod commands;
+pub mod operation;

@@ -1,6 +1,10 @@
 -- What joined and reached vectors have at each chip, and that a join is the least vector above both.
-use Rattle.std.proofs.Common.{◌≡◌, ℕ, zero, suc, ◌<◌, ◌≤◌, max, true, false, leb, List, [], ◌∷◌, length, get_or, sym, refl, ap, arith}
-use Rattle.std.proofs.lemmas.Bool.{le-leb, lt-leb, leb-true, and_from, and_left, and_right, and_parts}
+use Rattle.std.proofs.Common.{◌≡◌, ℕ, zero, suc, ◌+◌, ◌<◌, ◌≤◌, max, true, leb, nat_le, ◌&&◌, List, [], ◌∷◌, length, get_or, sym, refl, ap, ◌∙◌, subst, inl, inr, arith}
+use Rattle.std.specs.Array.{IsFromFnResult, IsFromFnResultFrom}
+use Rattle.std.specs.Fn.{Mut, Called}
+use Rattle.std.specs.List.{list_all, zip}
+use Rattle.std.proofs.lemmas.Bool.{le-leb, leb-true, and_from, and_parts, cases_eq}
+use Rattle.std.proofs.lemmas.List.{ext_get_or}
 use Rattle.vector.specs.Vectors.{joined, reached_by, LeastAbove}
 
 pub length_joined : (xs ys : List ℕ) → length xs ≡ length ys → length (joined xs ys) ≡ length xs
@@ -27,11 +31,30 @@ reached_at (x ∷ xs) [] h k = absurd (let z : ◌≡◌ {A = ℕ} 0 1 = cc in o
 reached_at (x ∷ xs) (y ∷ ys) h zero = leb-true x y (and_parts (leb x y) (reached_by xs ys) h).0
 reached_at (x ∷ xs) (y ∷ ys) h (suc k) = reached_at xs ys (and_parts (leb x y) (reached_by xs ys) h).1 k
 
-pub reached_not : (xs ys : List ℕ) (k : ℕ) → k < length xs → get_or ys k 0 < get_or xs k 0 → reached_by xs ys ≡ false
-reached_not [] ys k l h = absurd (omega arith)
-reached_not (x ∷ xs) [] k l h = refl
-reached_not (x ∷ xs) (y ∷ ys) zero l h = and_left (leb x y) (reached_by xs ys) (lt-leb x y h)
-reached_not (x ∷ xs) (y ∷ ys) (suc k) l h = and_right (leb x y) (reached_by xs ys) (reached_not xs ys k (omega arith) h)
+-- `reached_by` as the chain of the code has it
+pub reached_by-zip : (xs ys : List ℕ) → length xs ≡ length ys → reached_by xs ys ≡ list_all (λ p. nat_le p.0 p.1) (zip xs ys)
+reached_by-zip [] ys e = refl
+reached_by-zip (x ∷ xs) [] e = absurd (omega arith)
+reached_by-zip (x ∷ xs) (y ∷ ys) e = ap (λ b. nat_le x y && b) (reached_by-zip xs ys (omega arith))
+
+-- a list that was made by calls at its indexes, where the closure stays as it was
+made_each : {F : Type 0} (g : Mut F (ℕ × Unit {0}) ℕ) (f : F) (ys : List ℕ) (v : ℕ → ℕ) (i n : ℕ)
+    → ((k y : ℕ) (q : F) → Called g f (k, tt) y q → (q ≡ f) × (y ≡ v k))
+    → IsFromFnResultFrom g f ys i n → (k : ℕ) → i ≤ k → k < i + n → get_or ys k 0 ≡ v k
+made_each g f ys v i zero gives made k low high = absurd (omega arith)
+made_each {F} g f ys v i (suc n) gives (q, y, here, called, rest) k low high =
+    let turn = gives i y q called in
+    let same : F → Type 0 = λ h. IsFromFnResultFrom g h ys (i + 1) n in
+    elim (cases_eq i k) [
+      | inl e ↦ rw (← e) (here.1 0 ∙ turn.1)
+      | inr ne ↦ made_each g f ys v (i + 1) n gives (subst same turn.0 rest) k (omega arith) (omega arith)
+    ]
+
+pub joined_from_fn : {F : Type 0} (g : Mut F (ℕ × Unit {0}) ℕ) (f : F) (made xs ys : List ℕ) → length xs ≡ length ys → length xs ≡ 8 → IsFromFnResult g f made 8
+    → ((k y : ℕ) (q : F) → Called g f (k, tt) y q → (q ≡ f) × (y ≡ max (get_or xs k 0) (get_or ys k 0))) → made ≡ joined xs ys
+joined_from_fn g f made xs ys level long h gives =
+    ext_get_or 0 made (joined xs ys) (omega (arith, h.long, length_joined xs ys level))
+    (λ k l. made_each g f made (λ i. max (get_or xs i 0) (get_or ys i 0)) 0 8 gives h.each k (omega arith) (omega (arith, h.long)) ∙ sym (get_or_joined xs ys k level))
 
 pub joined_least : (xs ys : List ℕ) → length xs ≡ length ys → LeastAbove xs ys (joined xs ys)
 joined_least xs ys e =

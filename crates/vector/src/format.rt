@@ -3,13 +3,6 @@
 // A word is a kind in its top three bits and a payload in the 29 below: how many payloads there are.
 pub const PAYLOADS: u32 = 0x2000_0000;
 
-// The kinds of words. Any other kind is unsound.
-pub const HEAD: u32 = 0;
-
-pub const ENTRY: u32 = 1;
-
-pub const BODY: u32 = 2;
-
 // A head counts its vector words in the low four bits and its body words in the next five; all higher bits are clear.
 pub const BODY_STEP: u32 = 16;
 

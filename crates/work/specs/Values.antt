@@ -1,4 +1,5 @@
 -- Values: a body is pairs of a cell and its new value. A payload that is left over counts for nothing.
+--   pairs_of body               the pairs, each a cell and its value
 --   values_names body           each pair names its cell for writing
 --   values_effect body table    each pair's cell gets its value, one after the other
 --   values_judged body cells    the least cause that holds
@@ -8,6 +9,11 @@ use Rattle.work.specs.declared.fault.BodyFault.{BodyFault}
 use Rattle.work.specs.declared.fault.BodyFault.TheVariants.{Length, NoSuchCell, CellOrder}
 use Rattle.work.specs.declared.name.Name.{Name}
 use Rattle.work.specs.Kinds.{Kind, asks, fit_payloads, within, rising, writing}
+
+abbrev pub pairs_of : List ℕ → List (List ℕ)
+pairs_of [] = []
+pairs_of (cell ∷ []) = []
+pairs_of (cell ∷ value ∷ rest) = (cell ∷ value ∷ []) ∷ pairs_of rest
 
 abbrev pub values_names : List ℕ → List Name
 values_names [] = []

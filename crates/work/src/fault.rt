@@ -2,26 +2,30 @@
 ghost use Rattle.std.specs.Prelude.{◌≡◌};
 ghost use Rattle.work.specs.Faults.{cause_of};
 
-#[derive(Clone, Copy, PartialEq, Eq, Debug)]
+use thiserror::Error;
+
+#[derive(Clone, Copy, PartialEq, Eq, Debug, Error)]
 pub enum BodyFault {
-    // the number of payloads, or a payload of more than 29 bits
+    #[error("a wrong number of payloads, or a payload of more than 29 bits")]
     Length,
+    #[error("no such operation")]
     Operation,
-    // a sender's number is 0
+    #[error("the sender's number is 0")]
     NumberZero,
-    // a field that the operation does not use is not 0
+    #[error("a field that the operation does not use is not 0")]
     UnusedField,
-    // a cell that the table lacks, or that is kept for the senders
+    #[error("a cell that the table lacks or keeps for the senders")]
     NoSuchCell,
-    // cells that do not rise, or are not apart
+    #[error("cells that do not rise, or are not apart")]
     CellOrder,
 }
 
-impl BodyFault {
-    pub fn cause(self) -> u8
-        ensures { result ≡ cause_of self }
-    {
-        match self {
+// The number that is printed for a fault. Of two that hold, the lesser is answered.
+impl From<BodyFault> for u8 {
+    ghost from_gives = { λ fault n. n ≡ cause_of fault };
+
+    fn from(fault: BodyFault) -> u8 {
+        match fault {
             BodyFault::Length => 1,
             BodyFault::Operation => 2,
             BodyFault::NumberZero => 3,

@@ -13,6 +13,7 @@ pub trait Work {
         ensures { result ≡ (kind self.now).judged body.now cells };
 
     // The named cell at an index, counted from 0 in rising number; none behind the last.
+    // By index, since there is no heap, and a body that is not well formed can name any number of cells.
     fn name(&self, body: &[u32], index: usize) -> Option<Name>
         ensures { result ≡ nth ((kind self.now).names body.now) index };
 

@@ -1,6 +1,5 @@
 // A table of readings, read and written at any cell, and what every body's payloads keep to.
-ghost use Rattle.std.specs.Prelude.{◌≡◌, nat_lt, slice_index, slice_set};
-ghost use Rattle.vector.specs.Format.{payloads};
+ghost use Rattle.std.specs.Prelude.{◌≡◌, slice_index, slice_set};
 ghost use Rattle.work.specs.Kinds.{fit_payloads};
 
 use vector::format::PAYLOADS;
@@ -9,11 +8,11 @@ use vector::format::PAYLOADS;
 pub fn value(table: &[u32], cell: u32) -> u32
     ensures { result ≡ slice_index table.now cell }
 {
-    let cell = cell as usize;
-    if cell < table.len() { table[cell] } else { 0 }
+    table.get(cell as usize).copied().unwrap_or(0)
 }
 
 // Gives a cell its value; behind the end nothing changes.
+// By an index: of a slice behind `get_mut` a proof knows the length, and no element.
 pub fn store(table: &mut [u32], cell: u32, value: u32)
     ensures { table.new ≡ slice_set table.old cell value }
 {
@@ -23,20 +22,9 @@ pub fn store(table: &mut [u32], cell: u32, value: u32)
     }
 }
 
-fn fits(payload: u32) -> bool
-    ensures { result ≡ nat_lt payload payloads }
-{
-    payload < PAYLOADS
-}
-
 // Whether each payload has at most 29 bits.
 pub fn payloads_fit(body: &[u32]) -> bool
     ensures { result ≡ fit_payloads body.now }
 {
-    for payload in body {
-        if !fits(*payload) {
-            return false;
-        }
-    }
-    true
+    body.iter().all(|payload| *payload < PAYLOADS)
 }

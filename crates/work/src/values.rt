@@ -1,7 +1,7 @@
 // Values: a body sets cells, each pair of payloads a cell and the value that it gets.
 ghost use Rattle.std.specs.Prelude.{◌≡◌};
 ghost use Rattle.work.specs.Kinds.{within, rising};
-ghost use Rattle.work.specs.Values.{values, values_names, pairs_fit as fit_pairs};
+ghost use Rattle.work.specs.Values.{values, values_names, pairs_of, pairs_fit};
 ghost use Rattle.work.specs.ValuesLaws.{values_lawful};
 
 use crate::fault::BodyFault;
@@ -15,37 +15,27 @@ pub struct Values;
 
 // 1 to 8 pairs and nothing left over.
 fn pairs_fit(count: usize) -> bool
-    ensures { result ≡ fit_pairs count }
+    ensures { result ≡ pairs_fit count }
 {
     count > 0 && count <= PAYLOADS_OF_A_BODY && count % 2 == 0
+}
+
+fn pairs(body: &[u32]) -> &[[u32; 2]]
+    ensures { result.now ≡ pairs_of body.now }
+{
+    body.as_chunks().0
 }
 
 fn cells_are_there(body: &[u32], cells: u32) -> bool
     ensures { result ≡ within cells (values_names body.now) }
 {
-    let mut left = body;
-    while let [cell, _, rest @ ..] = left {
-        if *cell >= cells {
-            return false;
-        }
-        left = rest;
-    }
-    true
+    pairs(body).iter().all(|[cell, _]| *cell < cells)
 }
 
 fn cells_rise(body: &[u32]) -> bool
     ensures { result ≡ rising (values_names body.now) }
 {
-    let mut left = body;
-    let mut low: u64 = 0;
-    while let [cell, _, rest @ ..] = left {
-        if (*cell as u64) < low {
-            return false;
-        }
-        low = *cell as u64 + 1;
-        left = rest;
-    }
-    true
+    pairs(body).is_sorted_by(|[low, _], [high, _]| low < high)
 }
 
 impl Work for Values {
@@ -67,20 +57,13 @@ impl Work for Values {
     }
 
     fn name(&self, body: &[u32], index: usize) -> Option<Name> {
-        if index >= body.len() / 2 {
-            return None;
-        }
-        Some(Name {
-            cell: body[2 * index],
-            writes: true,
-        })
+        let [cell, _] = pairs(body).get(index)?;
+        Some(Name::writing(*cell))
     }
 
     fn run(&self, body: &[u32], table: &mut [u32]) {
-        let mut left = body;
-        while let [cell, value, rest @ ..] = left {
+        for [cell, value] in pairs(body) {
             store(table, *cell, *value);
-            left = rest;
         }
     }
 }

@@ -1,14 +1,13 @@
-use Rattle.std.proofs.Common.{◌≡◌, ◌<◌, length, sym, arith}
-use Rattle.vector.proofs.VectorLaws.{reached_from, reached_not}
+use Rattle.std.proofs.Common.{rules, tests, ◌∙◌, nat_le, sym, arith}
+use Rattle.std.proofs.lemmas.Iterator.{YieldsList-from_slice, YieldsList-from_zip}
+use Rattle.std.proofs.lemmas.Iterator.Search.{all_from_yields_List}
+use Rattle.vector.proofs.VectorLaws.{reached_by-zip}
 use Rattle.vector.proofs.vector.reached.Goals as goal
-
-pub returns-then-a-chip : goal.returns-then-a-chip
-returns-then-a-chip c =
-    let within : c.loop-chip.chip < length c.args.a = omega arith in
-    sym (reached_not c.args.a c.args.b c.loop-chip.chip within c.if-a-chip.true)
 
 pub returns : goal.returns
 returns c =
-    let long : length c.args.a ≡ 8 = omega arith in
-    let level : length c.args.a ≡ length c.args.b = omega arith in
-    sym (reached_from c.args.a c.args.b level (λ k l. c.loop-chip.invariant k (omega arith)))
+    let a = c.args.a in
+    let b = c.args.b in
+    all_from_yields_List (λ p. nat_le p.0 p.1) c.all.new.self _ _ c.all.ensures.ran
+    (YieldsList-from_zip (YieldsList-from_slice a cc) (YieldsList-from_slice b cc)) (λ x r q k. search (rules, tests))
+    ∙ sym (reached_by-zip a b (omega arith))

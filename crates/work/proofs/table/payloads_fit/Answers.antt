@@ -1,23 +1,12 @@
-use Rattle.std.proofs.Common.{◌+◌, ◌&&◌, drop, sym, ap, ◌∙◌}
-use Rattle.std.proofs.lemmas.List.{at_drop_more, at_drop_all}
+use Rattle.std.proofs.Common.{◌&&◌, nat_lt, refl, rules, tests, ◌∙◌}
+use Rattle.std.specs.List.{list_all}
+use Rattle.std.proofs.lemmas.Iterator.{YieldsList-from_slice}
+use Rattle.std.proofs.lemmas.Iterator.Search.{all_from_yields_List}
+use Rattle.std.proofs.lemmas.List.Recursion.{same_from_clauses}
 use Rattle.work.specs.Kinds.{fit_payloads}
 use Rattle.work.proofs.table.payloads_fit.Goals as goal
 
-pub loop-payload-preserved : goal.loop-payload-preserved
-loop-payload-preserved c =
-    let body = c.args.body.now in
-    let i = c.loop-payload.payload-index in
-    let step = at_drop_more fit_payloads body i 0 c.loop-payload-test.true in
-    let fits = ap (λ b. b && fit_payloads (drop (i + 1) body)) (sym c.fits.ensures ∙ c.if-not-fits.false) in
-    sym (step ∙ fits) ∙ c.loop-payload.invariant
-
-pub returns-then-not-fits : goal.returns-then-not-fits
-returns-then-not-fits c =
-    let body = c.args.body.now in
-    let i = c.loop-payload.payload-index in
-    let step = at_drop_more fit_payloads body i 0 c.loop-payload-test.true in
-    let wide = ap (λ b. b && fit_payloads (drop (i + 1) body)) (sym c.fits.ensures ∙ c.if-not-fits.true) in
-    sym (step ∙ wide) ∙ c.loop-payload.invariant
-
 pub returns : goal.returns
-returns c = sym (at_drop_all fit_payloads c.args.body.now c.loop-payload.payload-index c.loop-payload-test.false) ∙ c.loop-payload.invariant
+returns c =
+    all_from_yields_List (λ p. nat_lt p 536870912) c.all.new.self _ _ c.all.ensures.ran (YieldsList-from_slice c.args.body.now cc) (λ x r q k. search (rules, tests))
+    ∙ same_from_clauses (list_all (λ p. nat_lt p 536870912)) fit_payloads (λ p b. nat_lt p 536870912 && b) refl (λ _ _. refl) (λ _ _. refl) c.args.body.now

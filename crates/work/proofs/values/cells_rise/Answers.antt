@@ -1,9 +1,7 @@
-use Rattle.std.proofs.Common.{◌∙◌, arith, ltb-false}
-use Rattle.work.specs.ValuesLaws.{rising_behind}
+use Rattle.std.proofs.Common.{rules, tests}
+use Rattle.std.proofs.lemmas.List.Sorted.{answers_always}
+use Rattle.work.proofs.PairLaws.{cells_below, rising_by_pairs}
 use Rattle.work.proofs.values.cells_rise.Goals as goal
 
-pub loop-left-preserved : goal.loop-left-preserved
-loop-left-preserved c = (
-  omega arith,
-  rising_behind c.loop-left.low c.loop-left.left.now (omega (arith, ltb-false)) c.if-cell-low.false ∙ c.loop-left.invariant.1,
-)
+pub returns : goal.returns
+returns c = rising_by_pairs c.args.body.now _ (rw (← c.pairs.ensures) (c.is_sorted_by.ensures.cases cells_below (answers_always _ _ _ (λ f a r g k. search (rules, tests)))))

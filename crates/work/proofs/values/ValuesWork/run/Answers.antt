@@ -1,11 +1,7 @@
-use Rattle.std.proofs.Common.{◌-◌, length, take, drop, sym, ap, ◌∙◌, arith, ltb-false}
-use Rattle.work.specs.Values.{values_effect}
-use Rattle.work.specs.ValuesLaws.{two_and_rest}
+use Rattle.std.proofs.Common.{arith}
+use Rattle.std.proofs.lemmas.Grind.{common_steps}
+use Rattle.work.proofs.PairLaws.{effect_by_pairs}
 use Rattle.work.proofs.values.ValuesWork.run.Goals as goal
 
-pub loop-left-preserved : goal.loop-left-preserved
-loop-left-preserved c =
-    let left = c.loop-left.left.now in
-    ap (values_effect (take (length left - 2) (drop 2 left))) c.store.ensures
-    ∙ sym (ap (λ xs. values_effect xs c.loop-left.table) (two_and_rest left (omega (arith, ltb-false))))
-    ∙ c.loop-left.invariant
+pub returns : goal.returns
+returns c = grind (arith, common_steps, effect_by_pairs)

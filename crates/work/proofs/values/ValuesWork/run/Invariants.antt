@@ -1,9 +1,5 @@
-use Rattle.std.proofs.Common.{◌≡◌, length}
-use Rattle.work.specs.Values.{values_effect}
+use Rattle.std.proofs.Common.{◌≡◌, fold, take, slice_index, slice_set}
 use Rattle.work.proofs.values.ValuesWork.run.Given as goal
 
-abbrev pub invariant-loop-left : goal.invariant-loop-left
-invariant-loop-left l = values_effect l.left l.table ≡ values_effect l.body l.initial.table
-
-abbrev pub decreases-loop-left : goal.decreases-loop-left
-decreases-loop-left l = length l.left
+abbrev pub invariant-loop-cell : goal.invariant-loop-cell
+invariant-loop-cell l = l.table ≡ fold (λ t p. slice_set t (slice_index p 0) (slice_index p 1)) l.initial.table (take l.cell-index l.cell-items)
