@@ -1,6 +1,6 @@
 -- The words of a record read back as its vector and its body.
 use Rattle.std.proofs.Common.{◌≡◌, ℕ, zero, suc, ◌+◌, ◌-◌, ◌*◌, ◌/◌, ◌%◌, ◌<◌, ◌≤◌, true, false, cond, eqb, ltb, leb, ◌⊎◌, List, [], ◌∷◌, ◌++◌, map, length, get_or, take, drop, set, replicate, Ok, Err, Result, sym, refl, ap, ◌∙◌, subst, inl, inr, add-one, one-add, arith}
-use native.Mathlib.Nat.{sub-zero}
+use Rattle.std.proofs.Math.Seq.{take-append-add}
 use Rattle.std.proofs.lemmas.List.{append-nil, append_assoc, length-append, length_push, length-map, set_at, take-append-le, drop_at}
 use Rattle.std.proofs.lemmas.Nat.{div-mul-add, mod-mul-add}
 use Rattle.std.proofs.lemmas.Bool.{lt-ltb, le-ltb, le-leb, eq-eqb, ne_eqb, ltb-true, eqb-true, eqb-false, and_from, and_parts, and_left, and_right, cases_eq, cases_lt, cond-true, cond-false, cond_both}
@@ -159,12 +159,6 @@ payloads_short o place b (p ∷ ps) (suc n) fit short =
     payload_passes o place b p (length ps) (take n (map body_word ps)) (first_fits p ps fit).0
     ∙ payloads_short o (suc place) (b ++ p ∷ []) ps n (first_fits p ps fit).1 (omega arith)
 
--- a first part that holds all of a first list
-take_behind : (n : ℕ) (xs ys : List ℕ) → length xs ≤ n → take n (xs ++ ys) ≡ xs ++ take (n - length xs) ys
-take_behind n [] ys h = ap (λ k. take k ys) (sym (sub-zero n))
-take_behind zero (x ∷ xs) ys h = absurd (omega arith)
-take_behind (suc n) (x ∷ xs) ys h = ap (λ zs. x ∷ zs) (take_behind n xs ys (omega arith) ∙ ap (λ k. xs ++ take k ys) (omega arith))
-
 -- a vector that fits an origin is sound from its first chip on
 sound_from : (o : Origin) (chip : ℕ) (ps : List ℕ) → chip + length ps ≡ 8 → fit_places ps ≡ true → ((k : ℕ) → o.chips ≤ chip + k → get_or ps k 0 ≡ 0) → ((k : ℕ) → chip + k ≡ o.chip → get_or ps k 0 ≤ o.start) → Sound o chip ps
 sound_from o chip [] eight fit there own = tt
@@ -247,7 +241,8 @@ module _ (work : Kind) (cells : ℕ) (o : Origin) (v b : List ℕ) (writable : W
           let word = head_word (length (entry_words 0 v)) (length b) in
           let left = n - length (entry_words 0 v) in
           let rest = take left bs in
-          let words : take n (entry_words 0 v ++ bs) ≡ entry_words 0 v ++ rest = take_behind n (entry_words 0 v) bs h in
+          let words : take n (entry_words 0 v ++ bs) ≡ entry_words 0 v ++ rest =
+          ap (λ k. take k (entry_words 0 v ++ bs)) (omega arith) ∙ take-append-add (entry_words 0 v) bs left in
           let few : left < length b = omega (arith, length-append (entry_words 0 v) bs, length-map b body_word) in
           ap (λ xs. record_read work cells o (word ∷ xs)) words
           ∙ stops_in_body work cells o (word ∷ (entry_words 0 v ++ rest)) _ v RunsOut (reads_head (entry_words 0 v ++ rest)) (reads_vector rest)

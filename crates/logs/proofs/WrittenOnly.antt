@@ -1,5 +1,6 @@
 -- What is read as a record are the words that the writer gives for it.
-use Rattle.std.proofs.Common.{◌≡◌, ℕ, zero, suc, ◌+◌, ◌-◌, ◌*◌, ◌/◌, ◌%◌, ◌<◌, ◌≤◌, true, false, eqb, ltb, leb, ◌⊎◌, List, [], ◌∷◌, ◌++◌, map, length, get_or, take, drop, set, replicate, Some, None, Ok, Err, Result, sym, refl, ap, ◌∙◌, subst, inl, inr, add-zero, suc-add, zero-add, arith}
+use Rattle.std.proofs.Common.{◌≡◌, ℕ, zero, suc, ◌+◌, ◌-◌, ◌*◌, ◌/◌, ◌%◌, ◌<◌, ◌≤◌, true, false, eqb, ltb, leb, ◌⊎◌, List, [], ◌∷◌, ◌++◌, map, length, get_or, take, drop, set, replicate, Some, None, Ok, Err, Result, sym, refl, ap, ◌∙◌, subst, inl, inr, add-zero, arith}
+use Rattle.std.proofs.Math.Seq.{take-add}
 use Rattle.std.proofs.lemmas.Nat.{div-add-mod'}
 use Rattle.std.proofs.lemmas.List.{append-nil, append_assoc, length-append, length-map, length-replicate, set_at, length-take-le, replicate-append-replicate, drop-drop}
 use Rattle.std.proofs.lemmas.Bool.{lt-ltb, leb-true, ltb-true, ltb-false, eqb-false, ne_eqb, and_from, and_parts, and_cases, cases_lt, cond-true, cond-false}
@@ -67,7 +68,7 @@ no_entries o chip more front ws eight = record {
 -- a vector with one entry set behind a front that is read
 set_behind : (front : List ℕ) (d more place : ℕ) → set (front ++ replicate (d + suc more) 0) (length front + d) place ≡ (front ++ (replicate d 0 ++ place ∷ [])) ++ replicate more 0
 set_behind front d more place =
-    let zs = replicate d 0 in
+    let zs : List ℕ = replicate d 0 in
     ap (λ xs. set (front ++ xs) (length front + d) place) (sym (replicate-append-replicate d (suc more) 0))
     ∙ ap (λ xs. set xs (length front + d) place) (sym (append_assoc front zs (0 ∷ replicate more 0)))
     ∙ set_at (front ++ zs) 0 (replicate more 0) place (length front + d) (omega (arith, length-append front zs, length-replicate {A = ℕ} d 0))
@@ -84,7 +85,7 @@ not_past o e own here = by_part (and_cases (eqb e.chip o.chip) (ltb o.start e.pl
 -- one entry in front of those that are read behind it
 more_entries : (o : Origin) (low d more n w : ℕ) (front ws v : List ℕ) (e : Entry) → EntryRead o low w e → e.chip ≡ low + d → low + (d + suc more) ≡ 8 → Entries o (suc e.chip) more n (front ++ (replicate d 0 ++ e.place ∷ [])) ws v → Entries o low (d + suc more) (suc n) front (w ∷ ws) v
 more_entries o low d more n w front ws v e read chip eight behind =
-    let zs = replicate d 0 in
+    let zs : List ℕ = replicate d 0 in
     let place = e.place in
     let near : place < 67108864 = subst (λ p. p < 67108864) (ap (λ (x : Entry). x.place) read.is) (below w) in
     let own : e.chip ≡ o.chip → place ≤ o.start = not_past o e read.own in
@@ -109,7 +110,7 @@ more_entries o low d more n w front ws v e read chip eight behind =
 pub entries_only : (o : Origin) (place low : ℕ) (front : List ℕ) (more n : ℕ) (ws v : List ℕ) → length front ≡ low → low + more ≡ 8 → entries_read o place low (front ++ replicate more 0) n ws ≡ Ok v → Entries o low more n front ws v
 entries_only o place low front more zero ws v long eight read =
     subst (λ u. Entries o low more 0 front ws u) (ok_same (front ++ replicate more 0) v read) (no_entries o low more front ws eight)
-entries_only o place low front more (suc n) [] v long eight read = absurd (let z : ◌≡◌ {A = ℕ} 0 1 = cc in omega arith)
+entries_only o place low front more (suc n) [] v long eight read = absurd (cc)
 entries_only o place low front more (suc n) (w ∷ ws) v long eight read =
     let next : Entry → Result (List ℕ) Stop = λ e. entries_read o (suc place) (suc e.chip) (set (front ++ replicate more 0) e.chip e.place) n ws in
     let step = then_from (placed_at o place (entry_of o low w)) next v read in
@@ -149,7 +150,7 @@ payload_read word p read =
 pub payloads_only : (o : Origin) (place : ℕ) (front : List ℕ) (n : ℕ) (ws b : List ℕ) → payloads_read o place front n ws ≡ Ok b → Payloads n front ws b
 payloads_only o place front zero ws b read =
     record { ps = []; is = sym (append-nil front ∙ ok_same front b read); long = refl; fit = refl; words = refl; enough = omega arith }
-payloads_only o place front (suc n) [] b read = absurd (let z : ◌≡◌ {A = ℕ} 0 1 = cc in omega arith)
+payloads_only o place front (suc n) [] b read = absurd (cc)
 payloads_only o place front (suc n) (w ∷ ws) b read =
     let step = then_from (placed_at o place (payload_in w)) (λ p. payloads_read o (suc place) (front ++ p ∷ []) n ws) b read in
     let p = step.0 in
@@ -188,21 +189,12 @@ head_read word h read =
     }
 
 first_word : (ws : List ℕ) (word : ℕ) → word_at ws 0 ≡ Some word → ws ≡ word ∷ drop 1 ws
-first_word [] word read = absurd (let z : ◌≡◌ {A = ℕ} 0 1 = cc in omega arith)
+first_word [] word read = absurd (cc)
 first_word (x ∷ ws) word read =
     ap (λ y. y ∷ ws) (some_same x word (sym (cond-true (ltb 0 (suc (length ws))) (Some x) None (lt-ltb 0 (suc (length ws)) (omega arith))) ∙ read))
   where
     some_same : (x y : ℕ) → Some x ≡ Some y → x ≡ y
     some_same x y h = cc
-
-take_none : (k : ℕ) → ◌≡◌ {A = List ℕ} (take k []) []
-take_none zero = refl
-take_none (suc k) = refl
-
-take_both : (n m : ℕ) (xs : List ℕ) → take n xs ++ take m (drop n xs) ≡ take (n + m) xs
-take_both zero m xs = ap (λ k. take k xs) (sym (zero-add m))
-take_both (suc n) m [] = take_none m ∙ sym (take_none (suc n + m))
-take_both (suc n) m (x ∷ xs) = ap (λ ys. x ∷ ys) (take_both n m xs) ∙ ap (λ k. take k (x ∷ xs)) (sym (suc-add n m))
 
 sound_fits : (o : Origin) (chip : ℕ) (ps : List ℕ) → Sound o chip ps → fit_places ps ≡ true
 sound_fits o chip [] sound = refl
@@ -224,7 +216,7 @@ sound_own o chip (p ∷ ps) sound (suc k) h = sound_own o (suc chip) ps sound.1 
 
 body_good : (r : Result (Unit {0}) BodyFault) (x : Unit {0}) → body_fault r ≡ Ok x → r ≡ Ok tt
 body_good (Ok y) x h = refl
-body_good (Err f) x h = absurd (let z : ◌≡◌ {A = ℕ} 0 1 = cc in omega arith)
+body_good (Err f) x h = absurd (cc)
 
 -- the parts of a reading, put together
 written : (work : Kind) (cells : ℕ) (o : Origin) (ws v b : List ℕ) (word : ℕ) (h : Head) → ws ≡ word ∷ drop 1 ws → HeadRead word h → Entries o 0 8 h.entries [] (drop 1 ws) v → Payloads h.payloads [] (drop (1 + h.entries) ws) b → work.judged b cells ≡ Ok tt → Written work cells o ws (record { end = o.start + (1 + h.entries + h.payloads); vector = v; body = b })
@@ -241,7 +233,7 @@ written work cells o ws v b word h first head entries payloads good =
     let all-long : length (es ++ bs) ≡ h.entries + h.payloads = omega (arith, length-append es bs, length-map b body_word) in
     let behind : take (length (es ++ bs)) xs ≡ es ++ bs =
     ap (λ n. take n xs) all-long
-    ∙ sym (ap (λ ys. ys ++ bs) e-words ∙ ap (λ ys. take h.entries xs ++ ys) b-words ∙ take_both h.entries h.payloads xs) in
+    ∙ sym (ap (λ ys. ys ++ bs) e-words ∙ ap (λ ys. take h.entries xs ++ ys) b-words ∙ sym (take-add h.entries h.payloads xs)) in
     let head-is : word ≡ head_word (length es) (length b) =
     sym (ap (λ n. head_word n (length b)) e-long ∙ ap (head_word h.entries) b-long ∙ head.is) in
     let of : ℕ → Found = λ n. record { end = o.start + n; vector = v; body = b } in

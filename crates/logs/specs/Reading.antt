@@ -3,7 +3,7 @@
 --   entry_of o low word          a vector word's chip, from `low` on, and place, or the least cause that it has
 --   payload_in word              a body word's payload, or the least cause that it has
 --   and_then r f                 the next question, if the one before was not refused
---   placed_at, faulted o place r     a cause becomes a fault at a place of the log
+--   placed_at o place r          a cause becomes a fault at a place of the log
 --   from_word o place f w        a question to the word at a place, if there is one
 --   next_part o ws at f          the same of the word behind the first `at` words of a record
 --   entries_read o place low v n ws     the vector v with the n vector words at the front of ws in it
@@ -13,11 +13,11 @@
 --   read_answer work cells o ws         the same as an answer: a record, none since the words run out, or a fault
 -- `o` says which chip's log it is, of how many, and where the record starts; `ws` are the log's words from there on.
 use Rattle.std.specs.Prelude.{ℕ, zero, suc, ◌+◌, ◌/◌, ◌%◌, Bool, cond, ◌&&◌, List, [], ◌∷◌, ◌++◌, length, drop, Some, None, Ok, Err, Option, Result, ◌==◌, nat_le, nat_lt, slice_index, slice_set}
+use Rattle.arrayvec.specs.ArrayVec.{ArrayVec}
 use Rattle.vector.specs.Format.{kind_of, payload_of, places, chips_at_most, body_at_most}
 use Rattle.vector.specs.Vectors.{zeros}
 use Rattle.work.specs.Kinds.{Kind}
 use Rattle.work.specs.declared.fault.BodyFault.{BodyFault}
-use Rattle.logs.specs.Words.{padded}
 use Rattle.logs.specs.declared.fault.Cause.{Cause}
 use Rattle.logs.specs.declared.fault.Cause.TheVariants.{UnknownKind, NoHead, BadHead, NoEntry, BadEntry, OwnEntry, NoPayload, Body as BadBody}
 use Rattle.logs.specs.declared.fault.RecordFault.{RecordFault}
@@ -26,7 +26,6 @@ use Rattle.logs.specs.declared.fault.Stop.TheVariants.{RunsOut, Fault}
 use Rattle.logs.specs.declared.record.Origin.{Origin}
 use Rattle.logs.specs.declared.record.Head.{Head}
 use Rattle.logs.specs.declared.record.Entry.{Entry}
-use Rattle.logs.specs.declared.record.Body.{Body}
 use Rattle.logs.specs.declared.record.Record.{Record}
 
 abbrev pub and_then : {X Y E : Type 0} → Result X E → (X → Result Y E) → Result Y E
@@ -72,10 +71,6 @@ fault_of o place cause = record { chip = o.chip; place = place; cause = cause }
 
 abbrev pub fault_at : Origin → ℕ → Cause → Stop
 fault_at o place cause = Fault (fault_of o place cause)
-
-abbrev pub faulted : {X : Type 0} → Origin → ℕ → Result X Cause → Result X RecordFault
-faulted o place (Ok x) = Ok x
-faulted o place (Err cause) = Err (fault_of o place cause)
 
 abbrev pub placed_at : {X : Type 0} → Origin → ℕ → Result X Cause → Result X Stop
 placed_at o place (Ok x) = Ok x
@@ -125,8 +120,8 @@ abbrev pub record_read : Kind → ℕ → Origin → List ℕ → Result Found S
 record_read work cells o ws =
     and_then (parts_read o ws) (λ f. and_then (placed_at o o.start (body_fault (work.judged f.body cells))) (λ _. Ok f))
 
-abbrev pub in_body : List ℕ → Body
-in_body b = record { payloads = padded 16 b; count = length b }
+abbrev pub in_body : List ℕ → ArrayVec ℕ
+in_body b = record { items = b }
 
 abbrev pub in_record : Found → Record
 in_record f = record { end = f.end; vector = f.vector; body = in_body f.body }

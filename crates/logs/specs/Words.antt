@@ -5,12 +5,13 @@
 --   entry_words chip v      the vector words of the places v from this chip on: one for each that is not 0
 --   record_words v b        the record with the vector v and the body b
 --   fit_places v            each place can be written in a vector word
+--   in_words ws             the words as the writer hands them out
 --   write_answer v b        the words, or why they cannot be written
---   padded n xs             xs with zeros behind it, n elements in all
-use Rattle.std.specs.Prelude.{ℕ, suc, ◌+◌, ◌-◌, ◌*◌, Bool, true, cond, ◌&&◌, List, [], ◌∷◌, ◌++◌, map, length, replicate, Ok, Err, Result, ◌==◌, nat_le, nat_lt}
+use Rattle.std.specs.Prelude.{ℕ, suc, ◌+◌, ◌*◌, Bool, cond, ◌&&◌, List, [], ◌∷◌, ◌++◌, map, length, Ok, Err, Result, ◌==◌, nat_le, nat_lt}
+use Rattle.std.specs.List.{list_all}
+use Rattle.arrayvec.specs.ArrayVec.{ArrayVec}
 use Rattle.vector.specs.Format.{payloads, places, body_at_most}
 use Rattle.work.specs.Kinds.{fit_payloads}
-use Rattle.logs.specs.declared.writer.Words.{Words}
 use Rattle.logs.specs.declared.writer.Unwritable.{Unwritable}
 use Rattle.logs.specs.declared.writer.Unwritable.TheVariants.{BodyLength, WidePayload, FarPlace}
 
@@ -31,16 +32,12 @@ abbrev pub record_words : List ℕ → List ℕ → List ℕ
 record_words v b = head_word (length (entry_words 0 v)) (length b) ∷ (entry_words 0 v ++ map body_word b)
 
 abbrev pub fit_places : List ℕ → Bool
-fit_places [] = true
-fit_places (place ∷ v) = nat_lt place places && fit_places v
+fit_places v = list_all (λ place. nat_lt place places) v
 
-abbrev pub padded : ℕ → List ℕ → List ℕ
-padded n xs = xs ++ replicate (n - length xs) 0
+abbrev pub in_words : List ℕ → ArrayVec ℕ
+in_words ws = record { items = ws }
 
-abbrev pub in_words : List ℕ → Words
-in_words ws = record { words = padded 25 ws; count = length ws }
-
-abbrev pub write_answer : List ℕ → List ℕ → Result Words Unwritable
+abbrev pub write_answer : List ℕ → List ℕ → Result (ArrayVec ℕ) Unwritable
 write_answer v b =
     cond (nat_lt 0 (length b) && nat_le (length b) body_at_most)
     (cond (fit_payloads b)

@@ -4,31 +4,34 @@ ghost use Rattle.logs.specs.Faults.{cause_of};
 ghost use Rattle.logs.specs.declared.fault.Cause.TheVariants.{Body};
 ghost use Rattle.logs.specs.declared.fault.Stop.TheVariants.{Fault};
 
+use thiserror::Error;
 use work::fault::BodyFault;
 
-#[derive(Clone, Copy, PartialEq, Eq, Debug)]
+#[derive(Clone, Copy, PartialEq, Eq, Debug, Error)]
 pub enum Cause {
-    // a word of a kind that no record has
+    #[error("a word of a kind that no record has")]
     UnknownKind,
-    // a record that does not begin with a head
+    #[error("no head where a record should begin")]
     NoHead,
-    // more vector words or body words than there can be, no body word, or a bit that means nothing
+    #[error("a head with too many vector words, with no or too many body words, or with a stray bit")]
     BadHead,
+    #[error("no vector word where one should stand")]
     NoEntry,
-    // an entry's chip is missing or does not rise, or its place is 0
+    #[error("a vector word whose chip is missing or does not rise, or whose place is 0")]
     BadEntry,
-    // the entry of the log's own chip lies past the record's start
+    #[error("a vector word for the log's own chip that lies past the record's start")]
     OwnEntry,
+    #[error("no body word where one should stand")]
     NoPayload,
-    // the body is bad, with the kind of work's own cause
+    #[error("the body is bad, cause {number}: {fault}", number = u8::from(*.0), fault = .0)]
     Body(BodyFault),
 }
 
-impl Cause {
-    pub fn number(self) -> u8
-        ensures { result ≡ cause_of self }
-    {
-        match self {
+impl From<Cause> for u8 {
+    ghost from_gives = { λ cause n. n ≡ cause_of cause };
+
+    fn from(cause: Cause) -> u8 {
+        match cause {
             Cause::UnknownKind => 1,
             Cause::NoHead => 2,
             Cause::BadHead => 3,
@@ -50,17 +53,20 @@ impl From<BodyFault> for Cause {
 }
 
 // Where a log is unsound, and why.
-#[derive(Clone, Copy, PartialEq, Eq, Debug)]
+#[derive(Clone, Copy, PartialEq, Eq, Debug, Error)]
+#[error("chip {chip}, place {place}, cause {number}: {cause}", number = u8::from(*.cause))]
 pub struct RecordFault {
     pub chip: u32,
     pub place: usize,
     pub cause: Cause,
 }
 
-// Why no record is read.
-#[derive(Clone, Copy, PartialEq, Eq, Debug)]
+// Why no record is read. Of the shape of an Option, but an error that `?` raises for either reason: the names say which.
+#[derive(Clone, Copy, PartialEq, Eq, Debug, Error)]
 pub enum Stop {
+    #[error("the words run out")]
     RunsOut,
+    #[error(transparent)]
     Fault(RecordFault),
 }
 
