@@ -15,7 +15,9 @@ use std::alloc::{AllocError, Global};
 
 pub type Leaf = Either<PageChip<Traced>, CountChip<Traced>>;
 
-pub type Two = Either<Leaf, Pair<Leaf, Leaf>>;
+pub type OneOrTwo<C> = Either<C, Pair<C, C>>;
+
+pub type Two = OneOrTwo<Leaf>;
 
 // Chips of one type, of which two make a pair. The program is written over such a type, and not over the one
 // that it uses, since what is to be proved of a function grows with the types that it names.
@@ -23,37 +25,28 @@ pub trait Joins: Staged {
     fn of_leaf(leaf: Leaf) -> Self;
 
     // Two chips that could be held at a lower type are paired there, so that the pair can be paired again.
-    fn join(
-        first: Self,
-        second: Self,
-    ) -> Result<Either<Self, Pair<Self, Self>>, Unpaired<Self, Self>>;
+    fn join(first: Self, second: Self) -> Result<OneOrTwo<Self>, Unpaired<Self, Self>>;
 }
 
-impl Joins for Either<PageChip<Traced>, CountChip<Traced>> {
+impl Joins for Leaf {
     fn of_leaf(leaf: Leaf) -> Leaf {
         leaf
     }
 
-    fn join(
-        first: Leaf,
-        second: Leaf,
-    ) -> Result<Either<Leaf, Pair<Leaf, Leaf>>, Unpaired<Leaf, Leaf>> {
+    fn join(first: Leaf, second: Leaf) -> Result<OneOrTwo<Leaf>, Unpaired<Leaf, Leaf>> {
         joined(first, second)
     }
 }
 
-impl<C: Joins> Joins for Either<C, Pair<C, C>> {
-    fn of_leaf(leaf: Leaf) -> Either<C, Pair<C, C>> {
+impl<C: Joins> Joins for OneOrTwo<C> {
+    fn of_leaf(leaf: Leaf) -> OneOrTwo<C> {
         Either::Left(C::of_leaf(leaf))
     }
 
     fn join(
-        first: Either<C, Pair<C, C>>,
-        second: Either<C, Pair<C, C>>,
-    ) -> Result<
-        Either<Either<C, Pair<C, C>>, Pair<Either<C, Pair<C, C>>, Either<C, Pair<C, C>>>>,
-        Unpaired<Either<C, Pair<C, C>>, Either<C, Pair<C, C>>>,
-    > {
+        first: OneOrTwo<C>,
+        second: OneOrTwo<C>,
+    ) -> Result<OneOrTwo<OneOrTwo<C>>, Unpaired<OneOrTwo<C>, OneOrTwo<C>>> {
         match (first, second) {
             (Either::Left(first), Either::Left(second)) => match C::join(first, second) {
                 Ok(chip) => Ok(Either::Left(chip)),
@@ -74,13 +67,13 @@ impl<C: Joins> Joins for Either<C, Pair<C, C>> {
     }
 }
 
-fn joined<C: Staged>(first: C, second: C) -> Result<Either<C, Pair<C, C>>, Unpaired<C, C>> {
+fn joined<C: Staged>(first: C, second: C) -> Result<OneOrTwo<C>, Unpaired<C, C>> {
     Pair::new(first, second).map(Either::Right)
 }
 
 // A chip, or a pair of such chips, behind a box, since a value of that type is large.
 pub struct Held<C: Joins> {
-    chip: Box<Either<C, Pair<C, C>>>,
+    chip: Box<OneOrTwo<C>>,
 }
 
 impl<C: Joins> Drop for Held<C> {
@@ -91,7 +84,7 @@ impl<C: Joins> Drop for Held<C> {
 }
 
 impl<C: Joins> Held<C> {
-    fn boxed(heap: Global, chip: Either<C, Pair<C, C>>) -> Result<Held<C>, AllocError> {
+    fn boxed(heap: Global, chip: OneOrTwo<C>) -> Result<Held<C>, AllocError> {
         match Box::new(heap, chip) {
             Ok(chip) => Ok(Held { chip }),
             Err(back) => {

@@ -44,10 +44,7 @@ fn write_part(rt: &HostRuntime, file: &str, image: &[u32]) -> Result<(), Cause> 
     let heap = rt.alloc();
     let part = format!(in heap; "{file}.part")?;
     let bytes = bytes_of(heap, image)?;
-    match fs::write(rt, part.as_str(), bytes.as_slice()) {
-        Ok(()) => Ok(()),
-        Err(error) => Err(Cause::Unwritten(part, error)),
-    }
+    fs::write(rt, part.as_str(), bytes.as_slice()).map_err(|error| Cause::Unwritten(part, error))
 }
 
 fn put_in_place(rt: &HostRuntime, file: &str) -> Result<(), Cause> {

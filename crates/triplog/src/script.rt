@@ -113,7 +113,8 @@ fn parse_command(heap: Global, verb: &str, rest: &[String]) -> Result<Command, C
             let (call, name) = parse_call(heap, verb, rest)?;
             Ok(Command::Make(call, name))
         }
-        "cut" | "cuts" => parse_cut(heap, verb, rest),
+        "cut" => parse_cut(heap, rest),
+        "cuts" => parse_cuts(heap, rest),
         "record" => Ok(Command::Record(Draft::read(heap, rest)?)),
         "work" => Ok(Command::Work(Question::read(heap, rest)?)),
         _ => parse_named(heap, verb, rest),
@@ -146,23 +147,26 @@ fn parse_call(heap: Global, verb: &str, rest: &[String]) -> Result<(Call, String
     }
 }
 
-fn parse_cut(heap: Global, verb: &str, rest: &[String]) -> Result<Command, Cause> {
-    match (verb, rest) {
-        ("cut", []) => Ok(Command::Cut),
-        ("cut", [after, stores, verb, more @ ..]) if after.as_str() == "after" => {
+fn parse_cut(heap: Global, rest: &[String]) -> Result<Command, Cause> {
+    match rest {
+        [] => Ok(Command::Cut),
+        [after, stores, verb, more @ ..] if after.as_str() == "after" => {
             let stores = number(heap, stores.as_str())?;
             let (call, name) = parse_call(heap, verb.as_str(), more)?;
             Ok(Command::CutAfter(stores, call, name))
         }
-        ("cut", _) => Err(Cause::Shape(
+        _ => Err(Cause::Shape(
             "cut, or cut after STORES append NAME WORD, or cut after STORES settle NAME",
         )),
-        (_, [verb, more @ ..]) => {
-            let (call, name) = parse_call(heap, verb.as_str(), more)?;
-            Ok(Command::Cuts(call, name))
-        }
-        (_, []) => Err(Cause::Shape("cuts append NAME WORD, or cuts settle NAME")),
     }
+}
+
+fn parse_cuts(heap: Global, rest: &[String]) -> Result<Command, Cause> {
+    let [verb, more @ ..] = rest else {
+        return Err(Cause::Shape("cuts append NAME WORD, or cuts settle NAME"));
+    };
+    let (call, name) = parse_call(heap, verb.as_str(), more)?;
+    Ok(Command::Cuts(call, name))
 }
 
 // A call that begins with a name and stores nothing.

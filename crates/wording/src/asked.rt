@@ -23,11 +23,7 @@ pub struct Question {
 }
 
 fn read_kind(heap: Global, text: &str) -> Result<Chosen, Misread> {
-    match text {
-        "values" => Ok(Chosen::Values),
-        "commands" => Ok(Chosen::Commands),
-        _ => Err(Misread::UnknownWork(String::from_str(heap, text)?)),
-    }
+    text.parse().try_map_err(|_| Ok(Misread::UnknownWork(String::from_str(heap, text)?)))
 }
 
 impl Question {

@@ -2,7 +2,8 @@
 use crate::misread::Misread;
 use crate::number::word;
 use crate::pieces::{numbers_at, words};
-use commands::commands::{ADD, CLOSE, Command, LATCH};
+use commands::commands::Command;
+use commands::operation::Operation;
 use listing::field::payloads;
 use std::alloc::Global;
 use vector::format::CHIPS;
@@ -83,7 +84,7 @@ fn read_command(heap: Global, verb: &str, pieces: &[String]) -> Result<Command, 
         "add" => {
             let [amount, a, sender, number] = numbers_at::<4>(heap, ADD_FORM, ADD_FORM, pieces)?;
             Ok(Command {
-                operation: ADD,
+                operation: u32::from(Operation::Add),
                 sender,
                 number,
                 a,
@@ -94,7 +95,7 @@ fn read_command(heap: Global, verb: &str, pieces: &[String]) -> Result<Command, 
         "close" => {
             let [a, b, sender, number] = numbers_at::<4>(heap, CLOSE_FORM, CLOSE_FORM, pieces)?;
             Ok(Command {
-                operation: CLOSE,
+                operation: u32::from(Operation::Close),
                 sender,
                 number,
                 a,
@@ -107,7 +108,7 @@ fn read_command(heap: Global, verb: &str, pieces: &[String]) -> Result<Command, 
                 heap, LATCH_FORM, LATCH_FORM, pieces,
             )?;
             Ok(Command {
-                operation: LATCH,
+                operation: u32::from(Operation::Latch),
                 sender,
                 number,
                 a,

@@ -1,5 +1,4 @@
 // Why the pieces of a line cannot be read.
-use crate::show::InWords;
 use listing::field::Field;
 use std::alloc::AllocError;
 use thiserror::Error;
@@ -18,7 +17,7 @@ pub enum Misread {
     // no body begins like this
     #[error("a body begins with add, close, latch, set or raw")]
     NoBody,
-    #[error("{field}", field = InWords(*.0))]
+    #[error(transparent)]
     Wide(#[from] Field),
     #[error("'{0}' is no kind of work: values or commands")]
     UnknownWork(String),

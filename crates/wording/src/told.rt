@@ -1,5 +1,5 @@
 // What is told of a log and of a body.
-use crate::show::{BodyText, InWords};
+use crate::show::BodyText;
 use listing::judgement::Judgement;
 use listing::records::{Listing, Reading};
 use logs::record::Record;
@@ -15,7 +15,7 @@ pub fn lines(heap: Global, reading: Reading, listing: &Listing) -> Result<Vec<St
         .iter()
         .map(|record| record_line(heap, reading, record))
         .try_collect(heap)?;
-    let ending = InWords(listing.ending);
+    let ending = listing.ending;
     let line = match listing.records.len() {
         1 => format!(in heap; "1 record, {ending}")?,
         count => format!(in heap; "{count} records, {ending}")?,
@@ -37,7 +37,7 @@ fn record_line(heap: Global, reading: Reading, record: &Record) -> Result<String
 }
 
 // A judgement, shown in words.
-#[derive(Drop)]
+#[derive(Clone, Copy)]
 pub struct JudgementText<'a> {
     pub judgement: &'a Judgement,
 }
@@ -45,13 +45,13 @@ pub struct JudgementText<'a> {
 impl fmt::Display for JudgementText<'_> {
     fn fmt<W: fmt::Write>(&self, f: &mut fmt::Formatter<W>) -> fmt::Result {
         match self.judgement {
-            Judgement::WellFormed(names) => {
+            Ok(names) => {
                 write!(f, "well formed, names cells")?;
                 show_names(names.as_slice(), f)
             }
-            Judgement::Bad(fault) => {
-                let fault = InWords(*fault);
-                write!(f, "{fault}")
+            Err(fault) => {
+                let number = u8::from(*fault);
+                write!(f, "cause {number}: {fault}")
             }
         }
     }
@@ -60,7 +60,6 @@ impl fmt::Display for JudgementText<'_> {
 fn show_names<W: fmt::Write>(names: &[Name], f: &mut fmt::Formatter<W>) -> fmt::Result {
     for (index, name) in names.iter().enumerate() {
         let before = if index == 0 { "" } else { "," };
-        let name = InWords(*name);
         write!(f, "{before} {name}")?;
     }
     Ok(())
