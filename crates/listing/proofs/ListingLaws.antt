@@ -1,5 +1,5 @@
 -- A record ends behind its start, and stands behind those that are listed already.
-use Rattle.std.proofs.Common.{◌≡◌, ℕ, ◌+◌, ◌-◌, ◌<◌, List, [], ◌∷◌, ◌++◌, length, take, drop, Some, None, Ok, Err, Option, Result, sym, refl, ap, ◌∙◌, subst, arith}
+use Rattle.std.proofs.Common.{◌≡◌, ℕ, ◌+◌, ◌-◌, ◌^◌, ◌<◌, List, [], ◌∷◌, ◌++◌, length, take, drop, Some, None, Ok, Err, Option, Result, sym, refl, ap, ◌∙◌, subst, arith}
 use Rattle.std.proofs.lemmas.List.{take_rest}
 use Rattle.vector.specs.Vectors.{zeros}
 use Rattle.work.specs.Kinds.{Kind}
@@ -12,8 +12,11 @@ use Rattle.logs.specs.declared.record.Origin.{Origin}
 use Rattle.logs.specs.declared.record.Record.{Record}
 use Rattle.listing.specs.Kinds.{chosen_kind}
 use Rattle.listing.specs.Listings.{Listed, Stands, at_start, found}
-use Rattle.listing.specs.Listings.Listed.{one_more}
+use Rattle.listing.specs.Listings.Listed.{one_more, runs_out}
+use Rattle.std.specs.Option.{ok_or}
+use Rattle.std.specs.Result.{MatchResult}
 use Rattle.listing.specs.declared.records.Ending.{Ending}
+use Rattle.listing.specs.declared.records.Ending.TheVariants.{RunsOut as EndsInWords}
 use Rattle.listing.specs.declared.records.Reading.{Reading}
 
 -- what is found, if it is, ends behind the start
@@ -70,6 +73,11 @@ found_at g ws start place answer here h =
     ap (λ p. read_answer (chosen_kind g.kind) g.cells (at_start g p) (drop start ws)) (sym here)
     ∙ ap (read_answer (chosen_kind g.kind) g.cells (at_start g place)) (sym (take_rest ws start))
     ∙ sym h
+
+-- where a record should start there is one, or the words run out
+pub record_or_none : (g : Reading) (ws : List ℕ) (start : ℕ) (o : Option Record) → start < length ws → start < 2 ^ 32 → found g ws start ≡ Ok o → MatchResult (ok_or o (EndsInWords start)) (Stands g ws start) (Listed g ws start [])
+record_or_none g ws start (Some r) within near is = (within, near, is)
+record_or_none g ws start None within near is = runs_out within near is
 
 pub stands_behind : (g : Reading) (ws : List ℕ) (start : ℕ) (r : Record) → Stands g ws start r → start < r.end
 stands_behind g ws start r h = ends_behind (chosen_kind g.kind) g.cells (at_start g start) (drop start ws) r h.2

@@ -1,3 +1,4 @@
+pub mod Chosen
 pub mod Fields
 pub mod Judgements
 pub mod Kinds

@@ -1,17 +1,40 @@
 // A kind of work that is chosen when the program runs.
 ghost use Rattle.listing.specs.Kinds.{chosen_kind};
+ghost use Rattle.listing.specs.Chosen.{NamesWork};
 ghost use Rattle.listing.specs.ChosenLaws.{chosen_lawful};
 
 use commands::commands::Commands;
+use std::str::FromStr;
+use thiserror::Error;
 use work::fault::BodyFault;
 use work::kind::Work;
 use work::name::Name;
 use work::values::Values;
 
-#[derive(Clone, Copy)]
+// Its methods choose, one by one, since no function may make the chosen kind a dyn value and hand it out.
+#[derive(Clone, Copy, PartialEq, Eq, Debug)]
 pub enum Chosen {
     Values,
     Commands,
+}
+
+// A text that names no kind of work.
+#[derive(Clone, Copy, PartialEq, Eq, Debug, Error)]
+#[error("no kind of work: values or commands")]
+pub struct UnknownWork;
+
+impl FromStr for Chosen {
+    type Err = UnknownWork;
+
+    ghost from_str_gives = { NamesWork };
+
+    fn from_str(text: &str) -> Result<Chosen, UnknownWork> {
+        match text {
+            "values" => Ok(Chosen::Values),
+            "commands" => Ok(Chosen::Commands),
+            _ => Err(UnknownWork),
+        }
+    }
 }
 
 impl Work for Chosen {

@@ -3,15 +3,22 @@ ghost use Rattle.std.specs.Prelude.{◌≡◌, IfErr};
 ghost use Rattle.listing.specs.Fields.{first_wide, encoded, Wide};
 
 use commands::commands::{Command, SENDER_STEP, SENDERS};
+use thiserror::Error;
 
-#[derive(Clone, Copy, PartialEq, Eq, Debug)]
+#[derive(Clone, Copy, PartialEq, Eq, Debug, Error)]
 pub enum Field {
+    #[error("the operation is above 7")]
     Operation,
+    #[error("the sender is above 7")]
     Sender,
+    #[error("the number is above 8388607")]
     Number,
+    #[error("a cell is above 255")]
     Cell,
     // the bits above the cells
+    #[error("the spare bits are above 31")]
     Spare,
+    #[error("the amount is above 536870911")]
     Amount,
 }
 
@@ -20,10 +27,7 @@ pub fn payloads(command: Command) -> Result<[u32; 3], Field>
     ensures value { result ≡ encoded command }
     ensures wide { IfErr result (Wide command) }
 {
-    match command.body() {
-        Some(payloads) => Ok(payloads),
-        None => Err(wide_field(command)),
-    }
+    command.body().ok_or_else(|| wide_field(command))
 }
 
 // The first field with more than its bits; of a command that has none, the last.

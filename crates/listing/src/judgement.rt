@@ -1,5 +1,5 @@
 // What a kind of work says of a body alone.
-ghost use Rattle.std.specs.Prelude.{◌≡◌, take, IfOk};
+ghost use Rattle.std.specs.Prelude.{◌≡◌, IfOk};
 ghost use Rattle.listing.specs.Judgements.{Judges};
 ghost use Rattle.listing.specs.Kinds.{chosen_kind};
 
@@ -9,34 +9,53 @@ use work::fault::BodyFault;
 use work::kind::Work;
 use work::name::Name;
 
-#[derive(Drop)]
-pub enum Judgement {
-    // the cells that the body names, in rising number
-    WellFormed(Vec<Name>),
-    Bad(BodyFault),
-}
+// The cells that a body names, in rising number, or its fault.
+pub type Judgement = Result<Vec<Name>, BodyFault>;
 
-impl Judgement {
-    pub fn of(heap: Global, kind: Chosen, cells: u32, body: &[u32]) -> Result<Judgement, AllocError>
-        ensures { IfOk result (Judges (chosen_kind kind) cells body.now) }
-    {
-        match kind.judge(body, cells) {
-            Ok(()) => Ok(Judgement::WellFormed(names(heap, kind, body)?)),
-            Err(fault) => Ok(Judgement::Bad(fault)),
-        }
+pub fn judged(heap: Global, kind: Chosen, cells: u32, body: &[u32]) -> Result<Judgement, AllocError>
+    ensures { IfOk result (Judges (chosen_kind kind) cells body.now) }
+{
+    match kind.judge(body, cells) {
+        Ok(()) => Ok(Ok(names(heap, kind, body)?)),
+        Err(fault) => Ok(Err(fault)),
     }
 }
 
-// The first eight cells that a body names; a well-formed one names no more.
+// The cells that a body names.
 fn names(heap: Global, kind: Chosen, body: &[u32]) -> Result<Vec<Name>, AllocError>
-    ensures { IfOk result (λ v. v.items ≡ take 8 ((chosen_kind kind).names body.now)) }
+    ensures { IfOk result (λ v. v.items ≡ (chosen_kind kind).names body.now) }
 {
     let mut names = Vec::new(heap);
-    for index in 0..8 {
-        let Some(name) = kind.name(body, index) else {
-            return Ok(names);
-        };
+    while let Some(name) = kind.name(body, names.len()) {
         names.push(name)?;
     }
     Ok(names)
+}
+
+#[cfg(test)]
+mod tests {
+    use super::judged;
+    use crate::chosen::{Chosen, UnknownWork};
+    use std::test::Fail;
+    use work::fault::BodyFault;
+    use work::name::Name;
+
+    #[test]
+    fn a_body_is_judged_by_the_kind_of_a_name(rt: HostRuntime) -> Result<(), Fail> {
+        let values: Chosen = "values".parse()?;
+        let names = judged(rt.alloc(), values, 16, &[8, 5, 9, 7])??;
+        assert_eq!(rt; names.len(), 2);
+        assert_eq!(rt;
+            names[1],
+            Name {
+                cell: 9,
+                writes: true
+            }
+        );
+        let commands: Chosen = "commands".parse()?;
+        let fault = judged(rt.alloc(), commands, 16, &[8, 5, 9, 7])?.err();
+        assert_eq!(rt; fault, Some(BodyFault::Length));
+        assert_eq!(rt; "value".parse::<Chosen>(), Err(UnknownWork));
+        Ok(())
+    }
 }

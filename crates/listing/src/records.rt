@@ -1,5 +1,6 @@
 // The records of a log, one behind the other.
-ghost use Rattle.std.specs.Prelude.{[], IfOk, MatchResult};
+ghost use Rattle.std.specs.Prelude.{◌≡◌, [], IfOk, MatchResult};
+ghost use Rattle.listing.specs.declared.records.Ending.TheVariants.{Damaged};
 ghost use Rattle.listing.specs.Listings.{Listed, Stands};
 
 use crate::chosen::Chosen;
@@ -7,9 +8,10 @@ use logs::fault::RecordFault;
 use logs::reader::read;
 use logs::record::{Origin, Record};
 use std::alloc::{AllocError, Global};
+use std::fmt;
 
 // How a log is read: its kind of work, the number of cells, and its chip among the chips of a unit.
-#[derive(Clone, Copy)]
+#[derive(Clone, Copy, PartialEq, Eq, Debug)]
 pub struct Reading {
     pub kind: Chosen,
     pub cells: u32,
@@ -18,7 +20,7 @@ pub struct Reading {
 }
 
 // Where the records end.
-#[derive(Clone, Copy)]
+#[derive(Clone, Copy, PartialEq, Eq, Debug)]
 pub enum Ending {
     AllRead,
     // the words run out in the record that starts at this place
@@ -26,6 +28,25 @@ pub enum Ending {
     // a place of more than 32 bits, where no record is read; no chip has so many words
     TooFar(usize),
     Damaged(RecordFault),
+}
+
+impl From<RecordFault> for Ending {
+    ghost from_gives = { λ fault ending. ending ≡ Damaged fault };
+
+    fn from(fault: RecordFault) -> Ending {
+        Ending::Damaged(fault)
+    }
+}
+
+impl fmt::Display for Ending {
+    fn fmt<W: fmt::Write>(&self, f: &mut fmt::Formatter<W>) -> fmt::Result {
+        match self {
+            Ending::AllRead => write!(f, "all words read"),
+            Ending::RunsOut(place) => write!(f, "the words from place {place} on run out"),
+            Ending::TooFar(place) => write!(f, "place {place} is too far to be read"),
+            Ending::Damaged(damage) => write!(f, "damaged at {damage}"),
+        }
+    }
 }
 
 #[derive(Drop)]
@@ -50,11 +71,8 @@ impl Reading {
             chip: self.chip,
             start: place,
         };
-        match read(&self.kind, self.cells, origin, &words[start..]) {
-            Ok(Some(record)) => Ok(record),
-            Ok(None) => Err(Ending::RunsOut(start)),
-            Err(fault) => Err(Ending::Damaged(fault)),
-        }
+        let record = read(&self.kind, self.cells, origin, &words[start..])?;
+        record.ok_or(Ending::RunsOut(start))
     }
 }
 
@@ -67,8 +85,8 @@ impl Listing {
         loop {
             match reading.record_at(start, words) {
                 Ok(record) => {
-                    records.push(record)?;
                     start = record.end;
+                    records.push(record)?;
                 }
                 Err(ending) => return Ok(Listing { records, ending }),
             }
