@@ -2,7 +2,7 @@
 use chip::refusal::Refusal;
 use logs::writer::Unwritable;
 use std::fmt;
-use wording::show::InWords;
+use thiserror::Error;
 
 #[derive(Drop)]
 pub enum Answer {
@@ -18,22 +18,12 @@ pub enum Answer {
 }
 
 // Why a call does nothing; the script goes on.
-#[derive(Clone, Copy)]
+#[derive(Clone, Copy, Debug, Error)]
 pub enum Denial {
-    Refused(Refusal),
-    NotWritten(Unwritable),
-}
-
-impl From<Refusal> for Denial {
-    fn from(refusal: Refusal) -> Denial {
-        Denial::Refused(refusal)
-    }
-}
-
-impl From<Unwritable> for Denial {
-    fn from(why: Unwritable) -> Denial {
-        Denial::NotWritten(why)
-    }
+    #[error("refused {number}: {words}", number = .0.number(), words = meaning(*.0))]
+    Refused(#[from] Refusal),
+    #[error("not written: {0}")]
+    NotWritten(#[from] Unwritable),
 }
 
 pub type Outcome = Result<Answer, Denial>;
@@ -53,22 +43,6 @@ pub fn meaning(refusal: Refusal) -> &'static str {
         Refusal::BlankWord => "the blank word cannot be appended",
         Refusal::ChipFull => "the chip is full",
         Refusal::NoSuchWord => "no word stands at that place",
-    }
-}
-
-impl fmt::Display for Denial {
-    fn fmt<W: fmt::Write>(&self, f: &mut fmt::Formatter<W>) -> fmt::Result {
-        match self {
-            Denial::Refused(refusal) => {
-                let number = refusal.number();
-                let words = meaning(*refusal);
-                write!(f, "refused {number}: {words}")
-            }
-            Denial::NotWritten(why) => {
-                let why = InWords(*why);
-                write!(f, "not written: {why}")
-            }
-        }
     }
 }
 

@@ -5,7 +5,7 @@ use crate::held::{Held, Joins};
 use crate::image;
 use crate::script::{Call, Command, Kind, Source};
 use chip::words::{BLANK, MOST};
-use listing::judgement::Judgement;
+use listing::judgement::judged;
 use listing::records::{Listing, Reading};
 use logs::writer::write;
 use pair::pair::Unpaired;
@@ -254,7 +254,7 @@ fn record(heap: Global, draft: Draft) -> Result<Outcome, Cause> {
 }
 
 fn work(heap: Global, question: Question) -> Result<String, Cause> {
-    let judgement = Judgement::of(
+    let judgement = judged(
         heap,
         question.kind,
         question.cells,
