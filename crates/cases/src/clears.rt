@@ -26,13 +26,7 @@ impl Work for Clears {
     }
 
     fn name(&self, body: &[u32], index: usize) -> Option<Name> {
-        match index {
-            0 => Some(Name {
-                cell: value(body, 0),
-                writes: true,
-            }),
-            _ => None,
-        }
+        (index == 0).then_some(Name::writing(value(body, 0)))
     }
 
     fn run(&self, body: &[u32], table: &mut [u32]) {

@@ -29,11 +29,11 @@ fn payloads_have_29_bits_and_places_26(rt: HostRuntime) {
 
 #[test]
 fn the_longest_record_has_25_words(rt: HostRuntime) -> Result<(), Fail> {
-    let words = write([9; 8], &[8; 16]).ok().ok_or("not written")?;
-    assert_eq!(rt; words.count, 25);
-    assert_eq!(rt; words.words[0], 0x108);
-    assert_eq!(rt; words.words[8], 0x3c00_0009);
-    assert_eq!(rt; words.words[24], 0x4000_0008);
+    let words = write([9; 8], &[8; 16])?;
+    assert_eq!(rt; words.len(), 25);
+    assert_eq!(rt; words.first(), Some(&0x108));
+    assert_eq!(rt; words.get(8), Some(&0x3c00_0009));
+    assert_eq!(rt; words.get(24), Some(&0x4000_0008));
     Ok(())
 }
 
@@ -79,18 +79,14 @@ fn eight_pairs_of_values_pass(rt: HostRuntime) {
 
 // The cause for which a body of values is no record there.
 fn fault(origin: Origin, words: &[u32]) -> Result<u8, Fail> {
-    match read(&Values, 12, origin, words) {
-        Ok(_) => Err(Fail::new("no fault")),
-        Err(fault) => Ok(fault.cause.number()),
-    }
+    let fault = read(&Values, 12, origin, words).err().ok_or("no fault")?;
+    Ok(u8::from(fault.cause))
 }
 
 // An entry of the log's own chip may name the record's start and nothing behind it.
 #[test]
 fn an_own_entry_ends_at_the_start(rt: HostRuntime) -> Result<(), Fail> {
-    let words = write([0, 3, 0, 0, 0, 0, 0, 0], &[8, 5])
-        .ok()
-        .ok_or("not written")?;
+    let words = write([0, 3, 0, 0, 0, 0, 0, 0], &[8, 5])?;
     let at = Origin {
         chips: 2,
         chip: 1,
@@ -98,23 +94,23 @@ fn an_own_entry_ends_at_the_start(rt: HostRuntime) -> Result<(), Fail> {
     };
     let before = Origin { start: 2, ..at };
     let alone = Origin { chips: 1, ..at };
-    assert!(rt; matches!(read(&Values, 12, at, words.as_slice()), Ok(Some(_))));
-    assert_eq!(rt; fault(before, words.as_slice())?, 6);
-    assert_eq!(rt; fault(alone, words.as_slice())?, 5);
-    assert!(rt; matches!(read(&Values, 12, at, &words.words[0..3]), Ok(None)));
+    assert!(rt; matches!(read(&Values, 12, at, &words), Ok(Some(_))));
+    assert_eq!(rt; fault(before, &words)?, 6);
+    assert_eq!(rt; fault(alone, &words)?, 5);
+    assert!(rt; matches!(read(&Values, 12, at, &words[0..3]), Ok(None)));
     Ok(())
 }
 
 #[test]
 fn a_third_kind_is_written_read_and_run(rt: HostRuntime) -> Result<(), Fail> {
-    let words = write(NONE, &[2]).ok().ok_or("not written")?;
+    let words = write(NONE, &[2])?;
     let at = Origin {
         chips: 1,
         chip: 0,
         start: 0,
     };
-    assert!(rt; matches!(read(&Clears, 3, at, words.as_slice()), Ok(Some(_))));
-    assert!(rt; read(&Clears, 2, at, words.as_slice()).is_err());
+    assert!(rt; matches!(read(&Clears, 3, at, &words), Ok(Some(_))));
+    assert!(rt; read(&Clears, 2, at, &words).is_err());
     let mut table = [5, 6, 7];
     Clears.run(&[2], &mut table);
     assert_eq!(rt; table[2], 0);

@@ -22,6 +22,7 @@ pub fn judged(heap: Global, kind: Chosen, cells: u32, body: &[u32]) -> Result<Ju
 }
 
 // The cells that a body names.
+#[tactic(auto, using(crate::proofs::NameLaws::one_more, crate::proofs::NameLaws::no_more))]
 fn names(heap: Global, kind: Chosen, body: &[u32]) -> Result<Vec<Name>, AllocError>
     ensures { IfOk result (λ v. v.items ≡ (chosen_kind kind).names body.now) }
 {

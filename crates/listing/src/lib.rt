@@ -3,8 +3,8 @@
 //     let listing = Listing::of(heap, reading, words)?;
 //     let judgement = judged(heap, Chosen::Commands, 256, &body)?;
 //
-// `chosen` is a kind of work that is chosen when the program runs, by its name, `records` has the records of a log one behind the other,
-// `judgement` what a kind of work says of a body alone, and `field` which field of a command is too wide.
+// `chosen` is a kind of work that is chosen by its name when the program runs, `records` has the records of a log one behind
+// the other, `judgement` what a kind of work says of a body alone, and `field` which field of a command is too wide.
 #![tactic(auto)]
 
 pub mod chosen;

@@ -1,5 +1,5 @@
 -- What is read, one word on.
-use Rattle.std.proofs.Common.{◌≡◌, ℕ, suc, ◌+◌, ◌-◌, ◌<◌, ◌≤◌, Bool, true, false, cond, eqb, ltb, leb, ◌⊎◌, List, [], ◌∷◌, ◌++◌, length, get_or, drop, set, Some, None, Ok, Err, Option, Result, sym, refl, ap, ◌∙◌, subst, inl, inr, add-one, arith}
+use Rattle.std.proofs.Common.{◌≡◌, ℕ, suc, ◌+◌, ◌-◌, ◌<◌, ◌≤◌, Bool, true, false, cond, eqb, ltb, leb, ◌⊎◌, List, [], ◌∷◌, ◌++◌, length, get_or, drop, set, Some, None, Ok, Err, Option, Result, sym, refl, ap, ◌∙◌, subst, inl, inr, add-one, add_assoc, arith}
 use Rattle.std.proofs.lemmas.List.{drop_more, drop_all}
 use Rattle.std.proofs.lemmas.Bool.{lt-ltb, le-ltb, leb-true, cases_lt, ltb-true, eqb-true, and_parts}
 use Rattle.vector.specs.Format.{kind_of}
@@ -13,7 +13,7 @@ use Rattle.vector.specs.Vectors.{zeros}
 use Rattle.work.specs.Kinds.{Kind}
 use Rattle.logs.specs.declared.record.Head.{Head}
 use Rattle.logs.specs.declared.reader.Reader.{Reader}
-use Rattle.logs.specs.Readers.{moved}
+use Rattle.logs.specs.Readers.{moved, next_of}
 use Rattle.logs.specs.Reading.{body_fault, head_of, Found, parts_read, record_read, and_then, of_kind, entry_of, entry_fits, is_past_start, entry_in, payload_in, placed_at, from_word, word_at, next_part, entries_read, payloads_read}
 
 no_word : (ws : List ℕ) (at : ℕ) → length ws ≤ at → word_at ws at ≡ None
@@ -55,31 +55,38 @@ moved_more r k =
     let of : ℕ → Reader = λ at. record { words = r.words; origin = r.origin; at = at } in
     ap of (omega arith)
 
--- after k of n vector words: the next one, or all are read
-pub entries_turn : (o : Origin) (ws : List ℕ) (at low : ℕ) (v : List ℕ) (n k : ℕ) (r : Result Entry Stop) → k < n → r ≡ next_part o ws at (entry_of o low) → entries_read o (o.start + at) low v (n - k) (drop at ws) ≡ and_then r (λ e. entries_read o (o.start + (at + 1)) (e.chip + 1) (set v e.chip e.place) (n - (k + 1)) (drop (at + 1) ws))
-entries_turn o ws at low v n k r h is =
-    let left = n - (k + 1) in
-    let behind : ℕ → Entry → List ℕ → Result (List ℕ) Stop = λ place e us. entries_read o place (e.chip + 1) (set v e.chip e.place) left us in
-    ap (λ m. entries_read o (o.start + at) low v m (drop at ws)) (one_left n k h)
-    ∙ as_first (drop at ws)
-    ∙ first_is_next o ws at (entry_of o low) behind
-    ∙ ap (λ q. and_then q (λ e. behind (o.start + (at + 1)) e (drop (at + 1) ws))) (sym is)
+-- what the words behind the first k of n say of a vector, and of a body
+abbrev pub entries_left : Reader → ℕ → List ℕ → ℕ → ℕ → Result (List ℕ) Stop
+entries_left s low v n k = entries_read s.origin (s.origin.start + (s.at + k)) low v (n - k) (drop (s.at + k) s.words.now)
+
+abbrev pub payloads_left : Reader → List ℕ → ℕ → ℕ → Result (List ℕ) Stop
+payloads_left s b n k = payloads_read s.origin (s.origin.start + (s.at + k)) b (n - k) (drop (s.at + k) s.words.now)
+
+-- the next of those words first
+next_left : {X Y : Type 0} (s now : Reader) (k : ℕ) (f : ℕ → Result X Cause) (r : Result X Stop) (behind : ℕ → X → List ℕ → Result Y Stop) → now ≡ moved s k → r ≡ next_of now f → first_part s.origin (s.origin.start + (s.at + k)) f behind (drop (s.at + k) s.words.now) ≡ and_then r (λ x. behind (s.origin.start + (s.at + (k + 1))) x (drop (s.at + (k + 1)) s.words.now))
+next_left s now k f r behind passed is =
+    first_is_next s.origin s.words.now (s.at + k) f behind
+    ∙ ap (λ at. and_then (next_of (moved s k) f) (λ x. behind (s.origin.start + at) x (drop at s.words.now))) (add_assoc s.at k 1)
+    ∙ ap (λ q. and_then q (λ x. behind (s.origin.start + (s.at + (k + 1))) x (drop (s.at + (k + 1)) s.words.now))) (sym (is ∙ ap (λ reader. next_of reader f) passed))
+
+pub entries_turn : (s now : Reader) (low : ℕ) (v : List ℕ) (n k : ℕ) (r : Result Entry Stop) → k < n → now ≡ moved s k → r ≡ next_of now (entry_of now.origin low) → entries_left s low v n k ≡ and_then r (λ e. entries_left s (e.chip + 1) (set v e.chip e.place) n (k + 1))
+entries_turn s now low v n k r h passed is =
+    ap (λ m. entries_read s.origin (s.origin.start + (s.at + k)) low v m (drop (s.at + k) s.words.now)) (one_left n k h)
+    ∙ as_first (drop (s.at + k) s.words.now)
+    ∙ next_left s now k (entry_of s.origin low) r (λ place e us. entries_read s.origin place (e.chip + 1) (set v e.chip e.place) (n - (k + 1)) us) passed
+    (is ∙ ap (λ reader. next_of now (entry_of reader.origin low)) passed)
   where
-    as_first : (us : List ℕ) → entries_read o (o.start + at) low v (suc (n - (k + 1))) us ≡ first_part o (o.start + at) (entry_of o low) (λ place e rest. entries_read o place (e.chip + 1) (set v e.chip e.place) (n - (k + 1)) rest) us
+    as_first : (us : List ℕ) → entries_read s.origin (s.origin.start + (s.at + k)) low v (suc (n - (k + 1))) us ≡ first_part s.origin (s.origin.start + (s.at + k)) (entry_of s.origin low) (λ place e rest. entries_read s.origin place (e.chip + 1) (set v e.chip e.place) (n - (k + 1)) rest) us
     as_first [] = refl
     as_first (w ∷ us) = simp add-one
 
--- the same after k of n body words
-pub payloads_turn : (o : Origin) (ws : List ℕ) (at : ℕ) (b : List ℕ) (n k : ℕ) (r : Result ℕ Stop) → k < n → r ≡ next_part o ws at payload_in → payloads_read o (o.start + at) b (n - k) (drop at ws) ≡ and_then r (λ p. payloads_read o (o.start + (at + 1)) (b ++ p ∷ []) (n - (k + 1)) (drop (at + 1) ws))
-payloads_turn o ws at b n k r h is =
-    let left = n - (k + 1) in
-    let behind : ℕ → ℕ → List ℕ → Result (List ℕ) Stop = λ place p us. payloads_read o place (b ++ p ∷ []) left us in
-    ap (λ m. payloads_read o (o.start + at) b m (drop at ws)) (one_left n k h)
-    ∙ as_first (drop at ws)
-    ∙ first_is_next o ws at payload_in behind
-    ∙ ap (λ q. and_then q (λ p. behind (o.start + (at + 1)) p (drop (at + 1) ws))) (sym is)
+pub payloads_turn : (s now : Reader) (b : List ℕ) (n k : ℕ) (r : Result ℕ Stop) → k < n → now ≡ moved s k → r ≡ next_of now payload_in → payloads_left s b n k ≡ and_then r (λ p. payloads_left s (b ++ p ∷ []) n (k + 1))
+payloads_turn s now b n k r h passed is =
+    ap (λ m. payloads_read s.origin (s.origin.start + (s.at + k)) b m (drop (s.at + k) s.words.now)) (one_left n k h)
+    ∙ as_first (drop (s.at + k) s.words.now)
+    ∙ next_left s now k payload_in r (λ place p us. payloads_read s.origin place (b ++ p ∷ []) (n - (k + 1)) us) passed is
   where
-    as_first : (us : List ℕ) → payloads_read o (o.start + at) b (suc (n - (k + 1))) us ≡ first_part o (o.start + at) payload_in (λ place p rest. payloads_read o place (b ++ p ∷ []) (n - (k + 1)) rest) us
+    as_first : (us : List ℕ) → payloads_read s.origin (s.origin.start + (s.at + k)) b (suc (n - (k + 1))) us ≡ first_part s.origin (s.origin.start + (s.at + k)) payload_in (λ place p rest. payloads_read s.origin place (b ++ p ∷ []) (n - (k + 1)) rest) us
     as_first [] = refl
     as_first (w ∷ us) = refl
 

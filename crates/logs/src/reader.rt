@@ -1,10 +1,9 @@
 // The reader takes the words of one record in turn, and stops at the first that is unsound.
-ghost use Rattle.std.specs.Prelude.{◌≡◌, ◌+◌, ◌≤◌, [], drop, Ok, OnOk};
+ghost use Rattle.std.specs.Prelude.{◌≡◌, ◌≤◌, Ok, OnOk};
 ghost use Rattle.vector.specs.Format.{payload_of};
 ghost use Rattle.vector.specs.Kinds.{number_of_kind};
-ghost use Rattle.vector.specs.Vectors.{zeros};
 ghost use Rattle.logs.specs.RoundTrip.{OnlyWritten};
-ghost use Rattle.logs.specs.Reading.{and_then, of_kind, fault_of, head_of, entry_of, payload_in, word_at, entries_read, payloads_read, body_fault, parts_read, record_read, read_answer, in_body, in_record};
+ghost use Rattle.logs.specs.Reading.{and_then, of_kind, fault_of, head_of, entry_of, payload_in, body_fault, parts_read, record_read, read_answer, in_record};
 
 use crate::fault::{Cause, RecordFault, Stop};
 use crate::record::{Body, Entry, Head, Origin, Record};
@@ -12,7 +11,7 @@ use vector::format::{BODY_STEP, CHIPS, PAYLOADS_OF_A_BODY, PLACES};
 use vector::word::{Kind, payload};
 use work::kind::Work;
 
-fn fault_at(origin: Origin, place: usize, cause: Cause) -> RecordFault
+fn fault_of(origin: Origin, place: usize, cause: Cause) -> RecordFault
     ensures { result ≡ fault_of origin place cause }
 {
     RecordFault {
@@ -72,7 +71,7 @@ pub struct Reader<'a> {
 }
 
 impl<'a> Reader<'a> {
-    ghost use Rattle.logs.specs.Readers.{next_of, IsPart, moved, passed};
+    ghost use Rattle.logs.specs.Readers.{next_of, IsPart, vector_of, body_of, moved, passed};
 
     pub fn new(origin: Origin, words: &'a [u32]) -> Reader<'a>
         ensures words { result.words.now ≡ words.now }
@@ -86,22 +85,15 @@ impl<'a> Reader<'a> {
         }
     }
 
-    // The next word, if there is one.
-    fn next_word(&self) -> Option<u32>
-        ensures { result ≡ word_at self.now.words.now self.now.at }
-    {
-        self.words.get(self.at).copied()
-    }
-
     // Passes the next word if it is judged sound; else it is a fault there.
     fn part<T, F: FnOnce(u32) -> Result<T, Cause>>(&mut self, judge: F) -> Result<T, Stop>
         requires { F.IsAlwaysCallable judge }
         ensures answer { IsPart self.old (F.post judge) result }
         ensures after { self.new ≡ passed self.old result }
     {
-        let word = self.next_word().ok_or(Stop::RunsOut)?;
+        let word = *self.words.get(self.at).ok_or(Stop::RunsOut)?;
         let place = self.origin.start as usize + self.at;
-        let part = judge(word).map_err(|cause| fault_at(self.origin, place, cause))?;
+        let part = judge(word).map_err(|cause| fault_of(self.origin, place, cause))?;
         self.at += 1;
         Ok(part)
     }
@@ -132,7 +124,7 @@ impl<'a> Reader<'a> {
 
     // The vector of so many vector words.
     fn vector(&mut self, count: u32) -> Result<[u32; 8], Stop>
-        ensures answer { result ≡ entries_read self.old.origin (self.old.origin.start + self.old.at) 0 zeros count (drop self.old.at self.old.words.now) }
+        ensures answer { result ≡ vector_of self.old count }
         ensures after { OnOk result (self.new ≡ moved self.old count) }
     {
         let mut vector = [0; 8];
@@ -148,7 +140,7 @@ impl<'a> Reader<'a> {
     // The body of so many body words.
     fn body(&mut self, count: u32) -> Result<Body, Stop>
         requires { count ≤ 16 }
-        ensures answer { result ≡ and_then (payloads_read self.old.origin (self.old.origin.start + self.old.at) [] count (drop self.old.at self.old.words.now)) (λ b. Ok (in_body b)) }
+        ensures answer { result ≡ body_of self.old count }
         ensures after { OnOk result (self.new ≡ moved self.old count) }
     {
         let mut body = Body::new();
@@ -188,7 +180,7 @@ fn read_record<W: Work>(work: &W, cells: u32, origin: Origin, words: &[u32]) -> 
 {
     let record = read_parts(origin, words)?;
     let head = origin.start as usize;
-    judge_body(work, cells, &record.body).map_err(|cause| fault_at(origin, head, cause))?;
+    judge_body(work, cells, &record.body).map_err(|cause| fault_of(origin, head, cause))?;
     Ok(record)
 }
 

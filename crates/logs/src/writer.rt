@@ -40,6 +40,7 @@ fn has_word(place: u32) -> bool
 }
 
 // How many vector words a vector has.
+#[tactic(auto, using(crate::proofs::WriterLaws::entry_words_counted))]
 fn entries(vector: [u32; 8]) -> u32
     ensures count { result ≡ length (entry_words 0 vector) }
     ensures few { result ≤ 8 }
@@ -59,6 +60,7 @@ fn push_entries(words: &mut Words, vector: [u32; 8])
     }
 }
 
+#[tactic(auto, using(crate::proofs::WriterLaws::payload_fits))]
 fn push_payloads(words: &mut Words, body: &[u32])
     requires room { array_vec_len words.old + length body.now ≤ 25 }
     requires payloads { fit_payloads body.now ≡ true }

@@ -1,6 +1,7 @@
-use Rattle.std.proofs.Common.{◌≡◌, ◌+◌, ◌-◌, [], length, drop}
-use Rattle.logs.specs.Readers.{moved}
-use Rattle.logs.specs.Reading.{payloads_read}
+use Rattle.std.proofs.Common.{◌≡◌, length, Ok}
+use Rattle.logs.specs.Readers.{moved, body_of}
+use Rattle.logs.specs.Reading.{and_then, in_body}
+use Rattle.logs.proofs.ReaderLaws.{payloads_left}
 use Rattle.logs.proofs.reader.Reader.body.Given as goal
 
 abbrev pub invariant-loop : goal.invariant-loop
@@ -9,5 +10,5 @@ invariant-loop l =
     record {
       long : length l.body.items ≡ l.counter;
       passed : l.self ≡ moved was l.counter;
-      read : payloads_read was.origin (was.origin.start + (was.at + l.counter)) l.body.items (l.count - l.counter) (drop (was.at + l.counter) was.words.now) ≡ payloads_read was.origin (was.origin.start + was.at) [] l.count (drop was.at was.words.now);
+      read : and_then (payloads_left was l.body.items l.count l.counter) (λ b. Ok (in_body b)) ≡ body_of was l.count;
     }

@@ -1,7 +1,6 @@
-use Rattle.std.proofs.Common.{◌≡◌, ◌+◌, ◌-◌, length, drop}
-use Rattle.vector.specs.Vectors.{zeros}
-use Rattle.logs.specs.Readers.{moved}
-use Rattle.logs.specs.Reading.{entries_read}
+use Rattle.std.proofs.Common.{◌≡◌, length}
+use Rattle.logs.specs.Readers.{moved, vector_of}
+use Rattle.logs.proofs.ReaderLaws.{entries_left}
 use Rattle.logs.proofs.reader.Reader.vector.Given as goal
 
 abbrev pub invariant-loop : goal.invariant-loop
@@ -10,5 +9,5 @@ invariant-loop l =
     record {
       long : length l.vector ≡ 8;
       passed : l.self ≡ moved was l.counter;
-      read : entries_read was.origin (was.origin.start + (was.at + l.counter)) l.low l.vector (l.count - l.counter) (drop (was.at + l.counter) was.words.now) ≡ entries_read was.origin (was.origin.start + was.at) 0 zeros l.count (drop was.at was.words.now);
+      read : entries_left was l.low l.vector l.count l.counter ≡ vector_of was l.count;
     }
