@@ -5,6 +5,7 @@ use std::io;
 use thiserror::Error;
 use wording::misread::Misread;
 
+// An enum and no anyhow::Error, which keeps only so many bytes of a text: a name may be of any length.
 #[derive(Debug, Drop, Error)]
 pub enum Cause {
     #[error("no memory is left")]
@@ -47,6 +48,7 @@ pub enum Cause {
     Output(io::Error),
 }
 
+// By hand, since the two faults are two causes.
 impl From<StageFault> for Cause {
     fn from(fault: StageFault) -> Cause {
         match fault {

@@ -13,34 +13,37 @@ use staging::staged::Staged;
 use staging::traced::Traced;
 use std::alloc::{AllocError, Global};
 
-pub type Leaf = Either<PageChip<Traced>, CountChip<Traced>>;
+pub type One = Either<PageChip<Traced>, CountChip<Traced>>;
 
 pub type OneOrTwo<C> = Either<C, Pair<C, C>>;
 
-pub type Two = OneOrTwo<Leaf>;
+pub type Two = OneOrTwo<One>;
 
 // Chips of one type, of which two make a pair. The program is written over such a type, and not over the one
 // that it uses, since what is to be proved of a function grows with the types that it names.
 pub trait Joins: Staged {
-    fn of_leaf(leaf: Leaf) -> Self;
+    fn mount(kind: Kind, memory: Traced) -> Result<Self, Unmounted<Traced>>;
 
     // Two chips that could be held at a lower type are paired there, so that the pair can be paired again.
     fn join(first: Self, second: Self) -> Result<OneOrTwo<Self>, Unpaired<Self, Self>>;
 }
 
-impl Joins for Leaf {
-    fn of_leaf(leaf: Leaf) -> Leaf {
-        leaf
+impl Joins for One {
+    fn mount(kind: Kind, memory: Traced) -> Result<One, Unmounted<Traced>> {
+        match kind {
+            Kind::Page => PageChip::mount(memory).map(Either::Left),
+            Kind::Count => CountChip::mount(memory).map(Either::Right),
+        }
     }
 
-    fn join(first: Leaf, second: Leaf) -> Result<OneOrTwo<Leaf>, Unpaired<Leaf, Leaf>> {
+    fn join(first: One, second: One) -> Result<OneOrTwo<One>, Unpaired<One, One>> {
         joined(first, second)
     }
 }
 
 impl<C: Joins> Joins for OneOrTwo<C> {
-    fn of_leaf(leaf: Leaf) -> OneOrTwo<C> {
-        Either::Left(C::of_leaf(leaf))
+    fn mount(kind: Kind, memory: Traced) -> Result<OneOrTwo<C>, Unmounted<Traced>> {
+        C::mount(kind, memory).map(Either::Left)
     }
 
     fn join(
@@ -95,12 +98,8 @@ impl<C: Joins> Held<C> {
     }
 
     pub fn mounted(heap: Global, kind: Kind, memory: Traced) -> Result<Held<C>, StageFault> {
-        let leaf = match kind {
-            Kind::Page => PageChip::mount(memory).map(Either::Left),
-            Kind::Count => CountChip::mount(memory).map(Either::Right),
-        };
-        match leaf {
-            Ok(leaf) => Ok(Held::boxed(heap, Either::Left(C::of_leaf(leaf)))?),
+        match C::mount(kind, memory) {
+            Ok(chip) => Ok(Held::boxed(heap, Either::Left(chip))?),
             Err(Unmounted { memory: _, refusal }) => Err(StageFault::Refused(refusal)),
         }
     }

@@ -33,6 +33,7 @@ impl<C: Joins> Shelf<C> {
         }
     }
 
+    // A command is an enum, since no function may make a closure for it and hand it out.
     pub fn run(&mut self, rt: &HostRuntime, command: Command) -> Result<Vec<Reply>, Cause> {
         let heap = self.heap;
         let call = format!(in heap; "{command}")?;

@@ -10,7 +10,7 @@ pub fn words(heap: Global, pieces: &[String]) -> Result<Vec<u32>, Misread> {
         .try_collect(heap)
 }
 
-// The numbers that stand where the marks have a name in capitals; all other pieces have to be those of the marks. `form` is what
+// The N numbers that stand where the marks have a name in capitals; all other pieces have to be those of the marks. `form` is what
 // the line should look like.
 pub fn numbers_at<const N: usize>(
     heap: Global,
