@@ -1,4 +1,5 @@
 pub mod Calls
+pub mod Choice
 pub mod Count
 pub mod Cut
 pub mod Leaf

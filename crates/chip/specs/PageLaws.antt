@@ -1,18 +1,18 @@
 -- The page chip's words, its mount, and what it leaves at a cut.
-use Rattle.std.specs.Prelude.{◌≡◌, ℕ, ◌+◌, ◌-◌, ◌<◌, ◌≤◌, min, true, false, cond, ◌&&◌, List, [], ◌∷◌, ◌++◌, map, length, get_or, take, drop, ◌≢◌, nat_lt, slice_index, slice_index_or, slice_set, refl}
+use Rattle.std.specs.Prelude.{◌≡◌, ℕ, ◌+◌, ◌<◌, ◌≤◌, true, false, cond, ◌&&◌, List, [], ◌∷◌, ◌++◌, map, length, drop, ◌≢◌, nat_lt, slice_index, slice_index_or, refl}
 use Rattle.std.proofs.Common.{sym, ap, subst, ◌∙◌, arith}
 use Rattle.std.specs.List.{AllByRecursion}
 use Rattle.std.proofs.ByRecursion.{All-weaker, All-map}
-use Rattle.std.proofs.lemmas.List.{append-nil, append_assoc, length-append, length-set, length-take, length-take-le, take_all, take_more_set, get_or-take, get_or_append_left, get_or-append_right, get_or_default}
+use Rattle.std.proofs.lemmas.List.{append-nil, append_assoc, length-append, length_push, length-take, get_or-take, get_or_append_left, get_or_default}
 use Rattle.std.proofs.lemmas.Bool.{and_parts, lt-ltb, le-ltb, ltb-true}
 use Rattle.chip.specs.Cut.{Kept, Gapless}
-use Rattle.chip.specs.Page.{page_room, page_words, page_early, page_found, all_blank, none_blank, blank_behind, page_sound, PageIntact, PageMounted, written, writes}
+use Rattle.chip.specs.Page.{page_words, page_early, page_found, all_blank, none_blank, blank_behind, page_sound, PageIntact, written, writes}
 use Rattle.chip.specs.Finding.{kept_front, found_front, behind_is, none_blank_push, Programmed, programmed}
-use Rattle.chip.specs.Writing.{length_written, take_written, take_settled}
+use Rattle.chip.specs.Writing.{length_written}
 
 pub found_within : (ws : List ℕ) → length (page_found ws) ≤ length ws
 found_within ws =
-    let long : length (page_found ws) ≡ min (length (page_found ws)) (length ws) = ap length (found_front ws) ∙ length-take (length (page_found ws)) ws in
+    let long = ap length (found_front ws) ∙ length-take (length (page_found ws)) ws in
     omega arith
 
 -- what a sound memory tells
@@ -27,138 +27,97 @@ pub sound_is : (ws : List ℕ) → 0 < length ws → length ws ≤ 1048576 → p
 sound_is ws some few =
     ap (λ b. b && (nat_lt (length ws) 1048577 && blank_behind ws)) (lt-ltb 0 (length ws) some) ∙ ap (λ b. b && blank_behind ws) (lt-ltb (length ws) 1048577 (omega arith))
 
--- words that fit are all accepted
-pub words_fit : (ws : List ℕ) (n : ℕ) (page : List ℕ) (k : ℕ) → n + k ≤ page_room ws → page_words ws n page k ≡ take n ws ++ take k page
-words_fit ws n page k fits = take_all (page_room ws) (take n ws ++ take k page) (simp (length-append, length-take) (omega arith))
+module _ (ws : List ℕ) (n : ℕ) (waiting : List ℕ) (intact : PageIntact ws n waiting) where
+  pub length_words : length (page_words ws waiting) ≡ n + length waiting
+  length_words = length-append (page_found ws) waiting ∙ ap (λ k. k + length waiting) (sym intact.counted)
 
--- an intact chip's words are those that a mount finds and those that wait
-module _ (ws : List ℕ) (n : ℕ) (page : List ℕ) (k : ℕ) (intact : PageIntact ws n page k) where
-  pub intact_room : page_room ws ≡ length ws
-  intact_room =
-      let few = (sound_parts ws intact.sound).1 in
-      omega arith
+  pub page_bounded : (n ≤ length (page_words ws waiting)) × (length (page_words ws waiting) ≤ length ws) × (length ws ≤ 1048576)
+  page_bounded = (omega (arith, length_words), omega (arith, length_words, intact.fits), (sound_parts ws intact.sound).1)
 
-  pub intact_words : page_words ws n page k ≡ page_found ws ++ take k page
-  intact_words =
-      let fits : n + k ≤ page_room ws = omega (arith, intact_room, intact.fits) in
-      words_fit ws n page k fits ∙ ap (λ l. l ++ take k page) (ap (λ m. take m ws) intact.counted ∙ sym (found_front ws))
+  pub page_keeps : Kept (page_words ws waiting) n (page_found ws)
+  page_keeps = kept_front (page_found ws) waiting (page_words ws waiting) n refl (omega (arith, intact.counted))
 
-  pub page_keeps : Kept (page_words ws n page k) (min n (page_room ws)) (page_found ws)
-  page_keeps = kept_front (page_found ws) (take k page) (page_words ws n page k) (min n (page_room ws)) intact_words (omega (arith, intact.counted))
+  -- reading a programmed word
+  pub read_programmed : (place : ℕ) → place < n → slice_index (page_words ws waiting) place ≡ slice_index_or ws place 4294967295
+  read_programmed place below =
+      let found = ap (λ l. slice_index l place) (found_front ws) in
+      let within = found_within ws in
+      get_or_append_left (page_found ws) waiting 0 place (omega (arith, intact.counted)) ∙ found ∙ get_or-take (length (page_found ws)) ws place 0 (omega (arith, intact.counted)) ∙ get_or_default ws place 0 4294967295 (omega (arith, intact.counted))
+
+  -- a word is collected
+  module _ (w : ℕ) (word : w ≢ 4294967295) (room : n + length waiting < length ws) where
+    pub collected_unblank : none_blank (waiting ++ w ∷ []) ≡ true
+    collected_unblank = none_blank_push waiting w intact.unblank word
+
+    pub collected_words : page_words ws (waiting ++ w ∷ []) ≡ page_words ws waiting ++ w ∷ []
+    collected_words = sym (append_assoc (page_found ws) waiting (w ∷ []))
+
+    pub collected_intact : length waiting + 1 < 16 → PageIntact ws n (waiting ++ w ∷ [])
+    collected_intact few =
+        let long = length_push waiting w in
+        record { sound = intact.sound; counted = intact.counted; fits = omega (arith, long); few = omega (arith, long); unblank = collected_unblank }
 
 -- a mount at the place n of the first blank word
-module _ (ws : List ℕ) (n : ℕ) (page : List ℕ) (some : 0 < length ws) (few : length ws ≤ 1048576) (counted : n ≡ length (page_found ws)) where
-  behind : blank_behind ws ≡ all_blank (drop n ws)
-  behind = behind_is ws ∙ ap (λ m. all_blank (drop m ws)) (sym counted)
+module _ (ws : List ℕ) (n : ℕ) (some : 0 < length ws) (few : length ws ≤ 1048576) (counted : n ≡ length (page_found ws)) where
+  behind : page_sound ws ≡ all_blank (drop n ws)
+  behind = sound_is ws some few ∙ behind_is ws ∙ ap (λ m. all_blank (drop m ws)) (sym counted)
 
   pub mount_refused : all_blank (drop n ws) ≡ false → false ≡ page_sound ws
-  mount_refused word = sym (sound_is ws some few ∙ behind ∙ word)
+  mount_refused word = sym (behind ∙ word)
 
-  pub mount_accepted : all_blank (drop n ws) ≡ true → true ≡ page_sound ws
-  mount_accepted blank = sym (sound_is ws some few ∙ behind ∙ blank)
-
-  pub mount_made : all_blank (drop n ws) ≡ true → PageMounted ws n page 0
-  mount_made blank =
+  pub mount_intact : all_blank (drop n ws) ≡ true → PageIntact ws n []
+  mount_intact blank =
       let within = found_within ws in
-      let intact : PageIntact ws n page 0 = record { sound = sym (mount_accepted blank); counted = counted; fits = omega arith; unblank = refl } in
-      record { accepted = intact_words ws n page 0 intact ∙ append-nil (page_found ws); settled = omega arith; room = intact_room ws n page 0 intact; intact = intact }
+      record { sound = behind ∙ blank; counted = counted; fits = omega arith; few = omega arith; unblank = refl }
 
-pub length_words : (ws : List ℕ) (n : ℕ) (page : List ℕ) (k : ℕ) → k ≤ length page → length (page_words ws n page k) ≡ min (n + k) (page_room ws)
-length_words ws n page k within = simp (length-take, length-append) (omega arith)
+-- the words `more` are programmed behind the n words of a memory, which leaves `after`, and no word waits
+pub record PageProgrammed (ws : List ℕ) (n : ℕ) (more after waiting : List ℕ) (end : ℕ) : Type 0 where
+  pub intact : PageIntact after end waiting
+  pub words : page_words after waiting ≡ page_words ws more
+  pub same_room : length after ≡ length ws
+  pub sound : AllByRecursion (λ m. page_sound m ≡ true) (writes ws n more)
+  pub gapless : Gapless (page_found ws) (map page_found (writes ws n more)) (page_found after)
+  pub kept : (words : List ℕ) → words ≡ page_words ws more → AllByRecursion (Kept words n) (map page_found (writes ws n more))
 
--- reading a programmed or a waiting word
-module _ (ws : List ℕ) (n : ℕ) (page : List ℕ) (k place : ℕ) (within : k ≤ length page) (there : place < min (n + k) (page_room ws)) where
-  read_page : get_or (page_words ws n page k) place 0 ≡ slice_index (take n ws ++ take k page) place
-  read_page = get_or-take (page_room ws) (take n ws ++ take k page) place 0 (omega arith)
-
-  pub read_programmed : place < n → slice_index (page_words ws n page k) place ≡ slice_index_or ws place 4294967295
-  read_programmed below =
-      let inside : place < length (take n ws) = simp length-take (omega arith) in
-      read_page ∙ get_or_append_left (take n ws) (take k page) 0 place inside ∙ get_or-take n ws place 0 below ∙ get_or_default ws place 0 4294967295 (omega arith)
-
-  pub read_waiting : n ≤ place → slice_index (page_words ws n page k) place ≡ slice_index page (place - n)
-  read_waiting above =
-      let long : length (take n ws) ≡ n = length-take-le n ws (omega arith) in
-      read_page ∙ get_or-append_right (take n ws) (take k page) n place 0 long above ∙ get_or-take k page (place - n) 0 (omega arith)
-
--- a word is collected
-module _ (ws : List ℕ) (n : ℕ) (page : List ℕ) (k w : ℕ) (inside : k < length page) (room : n + k < page_room ws) where
-  more_page : take (k + 1) (slice_set page k w) ≡ take k page ++ w ∷ []
-  more_page = take_more_set page k w inside
-
-  pub collected_words : page_words ws n (slice_set page k w) (k + 1) ≡ page_words ws n page k ++ w ∷ []
-  collected_words =
-      words_fit ws n (slice_set page k w) (k + 1) (omega arith) ∙ ap (λ l. take n ws ++ l) more_page ∙ sym (append_assoc (take n ws) (take k page) (w ∷ [])) ∙ ap (λ l. l ++ w ∷ []) (sym (words_fit ws n page k (omega arith)))
-
-  pub collected_unblank : (w ≢ 4294967295) → none_blank (take k page) ≡ true → none_blank (take (k + 1) (slice_set page k w)) ≡ true
-  collected_unblank word unblank = ap none_blank more_page ∙ none_blank_push (take k page) w unblank word
-
-  pub collected_intact : (w ≢ 4294967295) → PageIntact ws n page k → PageIntact ws n (slice_set page k w) (k + 1)
-  collected_intact word intact =
-      record { sound = intact.sound; counted = intact.counted; fits = omega arith; unblank = collected_unblank word intact.unblank }
-
--- words are programmed behind those that a mount finds
 module _ (ws : List ℕ) (n : ℕ) (more : List ℕ) (sound : page_sound ws ≡ true) (counted : n ≡ length (page_found ws)) (fits : n + length more ≤ length ws) (unblank : none_blank more ≡ true) where
-  after : (low : ℕ) → low ≤ n → Programmed ws n more (page_found ws ++ more) low
-  after low enough = programmed more ws n (page_found ws ++ more) low counted enough refl (sound_parts ws sound).2 unblank fits
+  after : Programmed ws n more (page_words ws more) n
+  after = programmed more ws n (page_words ws more) n counted (omega arith) refl (sound_parts ws sound).2 unblank fits
 
   still_sound : (m : List ℕ) → length m ≡ length ws → blank_behind m ≡ true → page_sound m ≡ true
   still_sound m long behind =
       let parts = sound_parts ws sound in
       sound_is m (omega (arith, parts.0)) (omega (arith, parts.1)) ∙ behind
 
-  pub programmed_found : page_found (written ws n more) ≡ page_found ws ++ more
-  programmed_found = (after 0 (omega arith)).found
-
-  pub programmed_intact : (page : List ℕ) (end : ℕ) → end ≡ n + length more → PageIntact (written ws n more) end page 0
-  programmed_intact page end e =
+  programmed_page : PageProgrammed ws n more (written ws n more) [] (n + length more)
+  programmed_page =
       let long = length_written ws n more in
-      let count : end ≡ length (page_found (written ws n more)) = e ∙ ap (λ k. k + length more) counted ∙ sym (ap length programmed_found ∙ length-append (page_found ws) more) in
-      record { sound = still_sound (written ws n more) long (after 0 (omega arith)).behind; counted = count; fits = omega arith; unblank = refl }
+      let words : page_words (written ws n more) [] ≡ page_words ws more = append-nil (page_found (written ws n more)) ∙ after.found in
+      let count : n + length more ≡ length (page_found (written ws n more)) = ap (λ k. k + length more) counted ∙ sym (ap length after.found ∙ length-append (page_found ws) more) in
+      record {
+        intact = record { sound = still_sound (written ws n more) long after.behind; counted = count; fits = omega arith; few = omega arith; unblank = refl };
+        words = words;
+        same_room = long;
+        sound = All-weaker (λ m. (blank_behind m ≡ true) × (length m ≡ length ws) × Kept (page_words ws more) n (page_found m)) (λ m. page_sound m ≡ true) (λ m h. still_sound m h.1 h.0) (writes ws n more) after.moments;
+        gapless = subst (λ l. Gapless (page_found ws) (map page_found (writes ws n more)) l) (sym after.found) after.gapless;
+        kept = λ whole same. All-map (Kept whole n) page_found (writes ws n more) (All-weaker (λ m. (blank_behind m ≡ true) × (length m ≡ length ws) × Kept (page_words ws more) n (page_found m)) (λ m. Kept whole n (page_found m)) (λ m h. subst (λ l. Kept l n (page_found m)) (sym same) h.2) (writes ws n more) after.moments);
+      }
 
-  pub programmed_sound : AllByRecursion (λ m. page_sound m ≡ true) (writes ws n more)
-  programmed_sound =
-      All-weaker (λ m. (blank_behind m ≡ true) × (length m ≡ length ws) × Kept (page_found ws ++ more) 0 (page_found m)) (λ m. page_sound m ≡ true) (λ m h. still_sound m h.1 h.0) (writes ws n more) (after 0 (omega arith)).moments
+  pub page_programmed : (held waiting : List ℕ) (end : ℕ) → held ≡ written ws n more → waiting ≡ [] → end ≡ n + length more → PageProgrammed ws n more held waiting end
+  page_programmed held waiting end stored empty count =
+      subst (λ h. PageProgrammed ws n more h waiting end) (sym stored) (subst (λ l. PageProgrammed ws n more (written ws n more) l end) (sym empty) (subst (PageProgrammed ws n more (written ws n more) []) (sym count) programmed_page))
 
-  pub programmed_gapless : Gapless (page_found ws) (map page_found (writes ws n more)) (page_found (written ws n more))
-  programmed_gapless = subst (λ l. Gapless (page_found ws) (map page_found (writes ws n more)) l) (sym programmed_found) (after 0 (omega arith)).gapless
+-- all waiting words are programmed, and the sixteenth word with those that wait
+module _ (ws : List ℕ) (n : ℕ) (waiting : List ℕ) (intact : PageIntact ws n waiting) (more held left : List ℕ) (end : ℕ) (stored : held ≡ written ws n more) (none : left ≡ []) where
+  pub page_settled : more ≡ waiting → end ≡ n + length waiting → PageProgrammed ws n more held left end
+  page_settled same count =
+      let fits : n + length more ≤ length ws = omega (arith, ap length same, intact.fits) in
+      page_programmed ws n more intact.sound intact.counted fits (ap none_blank same ∙ intact.unblank) held left end stored none (omega (arith, ap length same))
 
-  pub programmed_kept : (words : List ℕ) (low : ℕ) → words ≡ page_found ws ++ more → low ≤ n → AllByRecursion (Kept words low) (map page_found (writes ws n more))
-  programmed_kept words low whole enough =
-      All-map (Kept words low) page_found (writes ws n more) (All-weaker (λ m. (blank_behind m ≡ true) × (length m ≡ length ws) × Kept (page_found ws ++ more) low (page_found m)) (λ m. Kept words low (page_found m)) (λ m h. subst (λ l. Kept l low (page_found m)) (sym whole) h.2) (writes ws n more) (after low enough).moments)
+  pub page_filled : (w : ℕ) → (w ≢ 4294967295) → n + length waiting < length ws → more ≡ waiting ++ w ∷ [] → length more ≡ 16 → end ≡ n + 16 → PageProgrammed ws n more held left end
+  page_filled w word room same long count =
+      let fits : n + length more ≤ length ws = omega (arith, ap length same, length_push waiting w) in
+      page_programmed ws n more intact.sound intact.counted fits (ap none_blank same ∙ collected_unblank ws n waiting intact w word room) held left end stored none (omega arith)
 
--- the sixteenth word is collected and the page programmed
-module _ (ws : List ℕ) (n : ℕ) (page : List ℕ) (k w : ℕ) (long : length page ≡ 16) (last : k + 1 ≡ 16) (room : n + k < page_room ws) where
-  abbrev filled : List ℕ
-  filled = take 16 (slice_set page k w)
-
-  pub filled_long : length filled ≡ 16
-  filled_long = length-take-le 16 (slice_set page k w) (simp length-set (omega arith))
-
-  pub filled_unblank : (w ≢ 4294967295) → none_blank (take k page) ≡ true → none_blank filled ≡ true
-  filled_unblank word unblank = ap (λ m. none_blank (take m (slice_set page k w))) (sym last) ∙ collected_unblank ws n page k w (omega arith) room word unblank
-
-  pub filled_words : page_words (written ws n filled) (n + 16) (slice_set page k w) 0 ≡ page_words ws n page k ++ w ∷ []
-  filled_words =
-      let same = length_written ws n filled in
-      let fits : n + 16 + 0 ≤ page_room (written ws n filled) = omega arith in
-      let short : length (take n ws) ≡ n = length-take-le n ws (omega arith) in
-      let whole : length (take n ws ++ filled) ≤ n + 16 = simp length-append (omega (arith, filled_long)) in
-      let six : page_words ws n (slice_set page k w) 16 ≡ page_words ws n page k ++ w ∷ [] = ap (page_words ws n (slice_set page k w)) (sym last) ∙ collected_words ws n page k w (omega arith) room in
-      words_fit (written ws n filled) (n + 16) (slice_set page k w) 0 fits ∙ append-nil (take (n + 16) (written ws n filled)) ∙ take_written (n + 16) ws n filled (omega arith) (omega (arith, filled_long)) ∙ take_all (n + 16) (take n ws ++ filled) whole ∙ sym (words_fit ws n (slice_set page k w) 16 (omega arith)) ∙ six
-
--- all waiting words are programmed
-pub settled_words : (ws : List ℕ) (n : ℕ) (page : List ℕ) (k : ℕ) → k ≤ length page → page_words (written ws n (take k page)) (n + k) page 0 ≡ page_words ws n page k
-settled_words ws n page k within =
-    let same : page_room (written ws n (take k page)) ≡ page_room ws = ap (λ l. min 1048576 l) (length_written ws n (take k page)) in
-    ap (λ l. take (page_room (written ws n (take k page))) l) (append-nil (take (n + k) (written ws n (take k page)))) ∙ ap (λ r. take r (take (n + k) (written ws n (take k page)))) same ∙ take_settled (page_room ws) ws n k (take k page) (omega arith) (length-take-le k page within)
-
-pub page_bounded : (ws : List ℕ) (n : ℕ) (page : List ℕ) (k : ℕ) → (min n (page_room ws) ≤ length (page_words ws n page k)) × (length (page_words ws n page k) ≤ page_room ws) × (page_room ws ≤ 1048576)
-page_bounded ws n page k = (simp (length-take, length-append) (omega arith), simp length-take (omega arith), omega arith)
-
--- a word more that waits, or a page that is programmed
-pub early_waits : (ws : List ℕ) (n k : ℕ) → k < 15 → page_early ws n k ≡ min n (page_room ws)
-early_waits ws n k few = ap (λ b. min (cond b n (n + 16)) (page_room ws)) (lt-ltb k 15 few)
-
-pub early_programs : (ws : List ℕ) (n k : ℕ) → 15 ≤ k → page_early ws n k ≡ min (n + 16) (page_room ws)
-early_programs ws n k last = ap (λ b. min (cond b n (n + 16)) (page_room ws)) (le-ltb k 15 last)
+-- with the sixteenth word a page is programmed
+pub early_programs : (n : ℕ) (waiting : List ℕ) → 15 ≤ length waiting → page_early n waiting ≡ n + 16
+early_programs n waiting last = ap (λ b. cond b n (n + 16)) (le-ltb (length waiting) 15 last)

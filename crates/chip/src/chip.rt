@@ -18,9 +18,6 @@ pub trait Chip: Sized {
     // How many are settled after the next Append, if that is accepted. This is free: each kind of chip says it.
     ghost early: { Self → ℕ };
 
-    // A state in which the cut rule holds: a mount gives such a chip, and every call keeps it so.
-    ghost intact: { Self → Type 0 };
-
     // The words that a mount finds if the power goes now.
     ghost left: { Self → List ℕ };
 
@@ -46,25 +43,23 @@ pub trait Chip: Sized {
         ensures free_settled { settled self.old ≤ settled self.new }
         ensures settles_early { is_ok result ≡ true → settled self.new ≡ early self.old }
         ensures refusal_changes_nothing { is_ok result ≡ false → self.new ≡ self.old }
-        ensures cut_inside { intact self.old → intact self.new × Moments passes self.old self.new (accepted self.new) (settled self.old) };
+        ensures cut_inside { Moments passes self.old self.new (accepted self.new) (settled self.old) };
 
     // Settles all words.
     fn settle(&mut self)
         ensures words { accepted self.new ≡ accepted self.old }
         ensures same_room { room self.new ≡ room self.old }
         ensures all_settled { settled self.new ≡ length (accepted self.old) }
-        ensures cut_inside { intact self.old → intact self.new × Moments passes self.old self.new (accepted self.old) (settled self.old) };
+        ensures cut_inside { Moments passes self.old self.new (accepted self.old) (settled self.old) };
 
-    // The power goes between two calls and comes back: the chip is mounted on what it left. An intact chip is
-    // never refused.
+    // The power goes between two calls and comes back: the chip is mounted on what it left. No chip is refused.
     fn cut(self) -> Result<Self, Self>
-        ensures { MatchResult result (λ c. intact c × (accepted c ≡ left self) × (settled c ≡ length (left self)) × (intact self → room c ≡ room self)) (λ _. intact self → ⊥) };
+        ensures { MatchResult result (λ c. (accepted c ≡ left self) × (settled c ≡ length (left self)) × (room c ≡ room self)) (λ _. ⊥) };
 
-    // Of every state whatever.
     ghost bounded: { (s : Self) → (settled s ≤ length (accepted s)) × (length (accepted s) ≤ room s) × (room s ≤ 1048576) };
 
     // The cut rule between two calls.
-    ghost keeps: { (s : Self) → intact s → Kept (accepted s) (settled s) (left s) };
+    ghost keeps: { (s : Self) → Kept (accepted s) (settled s) (left s) };
 
     // No step passes no moment.
     ghost rests: { (s : Self) → passes s [] s };

@@ -1,12 +1,10 @@
 // A chip that keeps the number of its words in the first word of its memory, and writes each word before the number.
-ghost use Rattle.std.specs.Prelude.{◌≡◌, ℕ, ◌+◌, ◌-◌, ◌≤◌, min, Bool, true, List, [], length, is_ok, MatchResult};
-ghost use Rattle.std.proofs.Common.{sym, arith, rules};
+ghost use Rattle.std.specs.Prelude.{◌≡◌, ℕ, ◌+◌, Bool, true, List, [], is_ok, MatchResult};
+ghost use Rattle.std.proofs.Common.{rules};
 ghost use Rattle.chip.specs.Leaf.{LeafPasses};
 ghost use Rattle.chip.specs.Count.{count_room, count_of, count_words, count_sound};
 ghost use Rattle.chip.specs.declared.refusal.Refusal.TheVariants.{UnfitMemory};
-ghost use Rattle.std.proofs.lemmas.List.{append-nil};
-ghost use Rattle.chip.specs.CountLaws.{length_counted};
-ghost use Rattle.chip.specs.Finding.{kept_front};
+ghost use Rattle.chip.specs.CountLaws.{count_bounded, count_keeps};
 ghost use Rattle.chip.specs.LeafLaws.{leaf_joined};
 
 use crate::chip::Chip;
@@ -16,6 +14,7 @@ use crate::words::{BLANK, MOST};
 
 pub struct CountChip<M: Memory> {
     memory: M,
+    ghost sound: { count_sound (M.Memory.holds memory) ≡ true },
 }
 
 impl<M: Memory> CountChip<M> {
@@ -23,14 +22,10 @@ impl<M: Memory> CountChip<M> {
     pub fn mount(memory: M) -> Result<CountChip<M>, Unmounted<M>>
         ensures sound { is_ok result ≡ count_sound (M.Memory.holds memory) }
         ensures chip { MatchResult result (λ c. c.memory ≡ memory) (λ e. (e.memory ≡ memory) × (e.refusal ≡ UnfitMemory)) }
-        ensures room { is_ok result ≡ true → count_room (M.Memory.holds memory) ≡ length (M.Memory.holds memory) - 1 }
     {
         let len = memory.len();
         if len < 2 || len > MOST + 1 || memory.load(0) as usize >= len {
-            return Err(Unmounted {
-                memory,
-                refusal: Refusal::UnfitMemory,
-            });
+            return Err(Unmounted::unfit(memory));
         }
         Ok(CountChip { memory })
     }
@@ -51,13 +46,13 @@ impl<M: Memory> CountChip<M> {
     fn room(&self) -> usize
         ensures { result ≡ count_room (M.Memory.holds self.now.memory) }
     {
-        self.memory.len().saturating_sub(1).min(MOST)
+        self.memory.len() - 1
     }
 
     fn words(&self) -> usize
         ensures { result ≡ count_of (M.Memory.holds self.now.memory) }
     {
-        (self.memory.load(0) as usize).min(self.room())
+        self.memory.load(0) as usize
     }
 }
 
@@ -70,17 +65,13 @@ impl<M: Memory> Chip for CountChip<M> {
 
     ghost early = { λ s. count_of (M.Memory.holds s.memory) + 1 };
 
-    ghost intact = { λ s. count_sound (M.Memory.holds s.memory) ≡ true };
-
     ghost left = { λ s. count_words (M.Memory.holds s.memory) };
 
     ghost passes = { λ s ls t. LeafPasses M.Memory.holds M.Memory.through count_sound count_words s.memory ls t.memory };
 
-    ghost bounded = { Prim.search rules };
+    ghost bounded = { λ s. count_bounded (M.Memory.holds s.memory) s.sound };
 
-    ghost keeps = { λ s intact.
-        let ws = M.Memory.holds s.memory in
-        kept_front (count_words ws) [] (count_words ws) (count_of ws) (sym (append-nil (count_words ws))) (omega (arith, length_counted ws)) };
+    ghost keeps = { λ s. count_keeps (M.Memory.holds s.memory) s.sound };
 
     ghost rests = { Prim.search rules };
 

@@ -1,37 +1,34 @@
 // A chip that collects words and programs them into its memory a page at a time.
-ghost use Rattle.std.specs.Prelude.{◌≡◌, ℕ, ◌+◌, ◌^◌, ◌<◌, ◌≤◌, min, Bool, true, List, [], ◌∷◌, ◌++◌, length, take, drop, is_ok, MatchResult};
+ghost use Rattle.std.specs.Prelude.{◌≡◌, ℕ, ◌+◌, ◌^◌, ◌<◌, List, [], ◌∷◌, ◌++◌, length, drop, is_ok, MatchResult};
 ghost use Rattle.chip.specs.Leaf.{LeafPasses};
-ghost use Rattle.chip.specs.Page.{page_room, page_words, page_early, page_found, page_sound, all_blank, PageIntact, PageMounted, written, writes};
+ghost use Rattle.chip.specs.Page.{page_words, page_early, page_found, page_sound, all_blank, PageIntact, PageMounted, written, writes};
 ghost use Rattle.chip.specs.declared.refusal.Refusal.TheVariants.{UnfitMemory};
 ghost use Rattle.chip.specs.PageLaws.{page_bounded, page_keeps};
 ghost use Rattle.chip.specs.LeafLaws.{leaf_joined};
-ghost use Rattle.std.proofs.Common.{rules, arith};
+ghost use Rattle.std.proofs.Common.{rules};
 
 use crate::chip::Chip;
 use crate::memory::Memory;
 use crate::refusal::{Refusal, Unmounted};
-use crate::words::{BLANK, MOST};
+use crate::words::{BLANK, MOST, PAGE};
+use arrayvec::ArrayVec;
 
 pub struct PageChip<M: Memory> {
     memory: M,
-    // The first `waiting` words are accepted and not yet programmed.
-    page: [u32; 16],
-    waiting: usize,
     programmed: usize,
-    ghost whole: { length page ≡ 16 },
-    ghost few: { waiting < 16 },
-    ghost small: { programmed + waiting ≤ 1048576 },
+    // Accepted words that are not yet programmed.
+    waiting: ArrayVec<u32, PAGE>,
+    ghost intact: { PageIntact (M.Memory.holds memory) programmed waiting.items },
 }
 
-// Programs the first words of a page from a place on, in their order.
-fn program<M: Memory>(memory: &mut M, at: usize, page: &[u32], count: usize)
-    requires fits { at + count < 2 ^ 64 }
-    requires within { count ≤ length page.now }
-    ensures memory { M.Memory.holds memory.new ≡ written (M.Memory.holds memory.old) at (take count page.now) }
-    ensures moments { M.Memory.through memory.old (writes (M.Memory.holds memory.old) at (take count page.now)) memory.new }
+// Programs words in their order, from a place on.
+fn program<M: Memory>(memory: &mut M, at: usize, words: &[u32])
+    requires { at + length words.now < 2 ^ 64 }
+    ensures memory { M.Memory.holds memory.new ≡ written (M.Memory.holds memory.old) at words.now }
+    ensures moments { M.Memory.through memory.old (writes (M.Memory.holds memory.old) at words.now) memory.new }
 {
-    for i in 0..count {
-        memory.store(at + i, page[i]);
+    for (i, word) in words.iter().enumerate() {
+        memory.store(at + i, *word);
     }
 }
 
@@ -40,50 +37,35 @@ fn first_blank<M: Memory>(memory: &M) -> usize
     ensures { result ≡ length (page_found (M.Memory.holds memory.now)) }
 {
     let len = memory.len();
-    for i in 0..len {
-        if memory.load(i) == BLANK {
-            return i;
-        }
-    }
-    len
+    (0..len)
+        .find(|place| memory.load(*place) == BLANK)
+        .unwrap_or(len)
 }
 
 fn is_blank_from<M: Memory>(memory: &M, from: usize) -> bool
     ensures { result ≡ all_blank (drop from (M.Memory.holds memory.now)) }
 {
-    for i in from..memory.len() {
-        if memory.load(i) != BLANK {
-            return false;
-        }
-    }
-    true
+    (from..memory.len()).all(|place| memory.load(place) == BLANK)
 }
 
 impl<M: Memory> PageChip<M> {
     // A chip on what a memory holds; one that no page chip left is handed back.
     pub fn mount(memory: M) -> Result<PageChip<M>, Unmounted<M>>
         ensures sound { is_ok result ≡ page_sound (M.Memory.holds memory) }
-        ensures chip { MatchResult result (λ c. (c.memory ≡ memory) × PageMounted (M.Memory.holds memory) c.programmed c.page c.waiting) (λ e. (e.memory ≡ memory) × (e.refusal ≡ UnfitMemory)) }
+        ensures chip { MatchResult result (λ c. (c.memory ≡ memory) × PageMounted (M.Memory.holds memory) c.programmed c.waiting.items) (λ e. (e.memory ≡ memory) × (e.refusal ≡ UnfitMemory)) }
     {
         let len = memory.len();
         if len == 0 || len > MOST {
-            return Err(Unmounted {
-                memory,
-                refusal: Refusal::UnfitMemory,
-            });
+            return Err(Unmounted::unfit(memory));
         }
         let programmed = first_blank(&memory);
         if !is_blank_from(&memory, programmed) {
-            return Err(Unmounted {
-                memory,
-                refusal: Refusal::UnfitMemory,
-            });
+            return Err(Unmounted::unfit(memory));
         }
         Ok(PageChip {
             memory,
-            page: [0; 16],
-            waiting: 0,
             programmed,
+            waiting: ArrayVec::new(),
         })
     }
 
@@ -99,51 +81,42 @@ impl<M: Memory> PageChip<M> {
     {
         let PageChip {
             memory,
-            page: _,
-            waiting: _,
             programmed: _,
+            waiting: _,
         } = self;
         memory
-    }
-
-    fn room(&self) -> usize
-        ensures { result ≡ page_room (M.Memory.holds self.now.memory) }
-    {
-        self.memory.len().min(MOST)
     }
 }
 
 impl<M: Memory> Chip for PageChip<M> {
-    ghost accepted = { λ s. page_words (M.Memory.holds s.memory) s.programmed s.page s.waiting };
+    ghost accepted = { λ s. page_words (M.Memory.holds s.memory) s.waiting.items };
 
-    ghost settled = { λ s. min s.programmed (page_room (M.Memory.holds s.memory)) };
+    ghost settled = { λ s. s.programmed };
 
-    ghost room = { λ s. page_room (M.Memory.holds s.memory) };
+    ghost room = { λ s. length (M.Memory.holds s.memory) };
 
-    ghost early = { λ s. page_early (M.Memory.holds s.memory) s.programmed s.waiting };
-
-    ghost intact = { λ s. PageIntact (M.Memory.holds s.memory) s.programmed s.page s.waiting };
+    ghost early = { λ s. page_early s.programmed s.waiting.items };
 
     ghost left = { λ s. page_found (M.Memory.holds s.memory) };
 
     ghost passes = { λ s ls t. LeafPasses M.Memory.holds M.Memory.through page_sound page_found s.memory ls t.memory };
 
-    ghost bounded = { λ s. page_bounded (M.Memory.holds s.memory) s.programmed s.page s.waiting };
+    ghost bounded = { λ s. page_bounded (M.Memory.holds s.memory) s.programmed s.waiting.items s.intact };
 
-    ghost keeps = { λ s intact. page_keeps (M.Memory.holds s.memory) s.programmed s.page s.waiting intact };
+    ghost keeps = { λ s. page_keeps (M.Memory.holds s.memory) s.programmed s.waiting.items s.intact };
 
-    ghost rests = { first_of (Prim.search rules, Prim.grind (arith, Self.row.coded.inj)) };
+    ghost rests = { Prim.search rules };
 
     ghost joins = { λ a b c xs ys here more. leaf_joined M.Memory.holds M.Memory.through page_sound page_found M.Memory.joins a.memory b.memory c.memory xs ys here more };
 
-    ghost gapless = { first_of (Prim.search rules, Prim.grind (arith, Self.row.coded.inj)) };
+    ghost gapless = { Prim.search rules };
 
     fn capacity(&self) -> u32 {
-        self.room() as u32
+        self.memory.len() as u32
     }
 
     fn count(&self) -> u32 {
-        (self.programmed + self.waiting).min(self.room()) as u32
+        (self.programmed + self.waiting.len()) as u32
     }
 
     fn read_word(&self, place: u32) -> Result<u32, Refusal> {
@@ -154,7 +127,7 @@ impl<M: Memory> Chip for PageChip<M> {
         if place < self.programmed {
             Ok(self.memory.load(place))
         } else {
-            Ok(self.page[place - self.programmed])
+            Ok(self.waiting[place - self.programmed])
         }
     }
 
@@ -162,40 +135,36 @@ impl<M: Memory> Chip for PageChip<M> {
         if word == BLANK {
             return Err(Refusal::BlankWord);
         }
-        if self.programmed + self.waiting >= self.room() {
+        if self.count() >= self.capacity() {
             return Err(Refusal::ChipFull);
         }
-        self.page[self.waiting] = word;
-        if self.waiting < 15 {
-            self.waiting += 1;
-        } else {
-            program(&mut self.memory, self.programmed, &self.page, 16);
-            self.waiting = 0;
-            self.programmed += 16;
+        self.waiting.push(word);
+        if self.waiting.is_full() {
+            program(&mut self.memory, self.programmed, &self.waiting);
+            self.programmed += PAGE;
+            self.waiting.clear();
         }
         Ok(())
     }
 
     fn settle(&mut self) {
-        program(&mut self.memory, self.programmed, &self.page, self.waiting);
-        self.programmed += self.waiting;
-        self.waiting = 0;
+        program(&mut self.memory, self.programmed, &self.waiting);
+        self.programmed += self.waiting.len();
+        self.waiting.clear();
     }
 
     fn cut(self) -> Result<PageChip<M>, PageChip<M>> {
         let PageChip {
             memory,
-            page,
-            waiting,
             programmed,
+            waiting,
         } = self;
         match PageChip::mount(memory) {
             Ok(chip) => Ok(chip),
             Err(Unmounted { memory, refusal: _ }) => Err(PageChip {
                 memory,
-                page,
-                waiting,
                 programmed,
+                waiting,
             }),
         }
     }

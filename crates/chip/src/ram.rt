@@ -42,16 +42,12 @@ impl Memory for Ram {
     }
 
     fn load(&self, place: usize) -> u32 {
-        if place < self.words.len() {
-            self.words[place]
-        } else {
-            u32::MAX
-        }
+        self.words.get(place).copied().unwrap_or(u32::MAX)
     }
 
     fn store(&mut self, place: usize, word: u32) {
-        if place < self.words.len() {
-            self.words[place] = word;
+        if let Some(held) = self.words.get_mut(place) {
+            *held = word;
         }
     }
 }

@@ -7,21 +7,14 @@ mod tests {
     use chip::count::CountChip;
     use chip::page::PageChip;
     use chip::ram::Ram;
-    use chip::refusal::Unmounted;
     use pair::pair::{Pair, Unpaired};
     use std::alloc::Global;
     use std::test::Fail;
 
     fn blank_page(heap: Global, size: usize) -> Result<PageChip<Ram>, Fail> {
-        match PageChip::mount(Ram::new(vec![in heap; u32::MAX; size]?)) {
-            Ok(chip) => Ok(chip),
-            Err(
-                Unmounted {
-                    memory: _,
-                    refusal: _,
-                },
-            ) => Err(Fail::new("a blank memory was refused")),
-        }
+        PageChip::mount(Ram::new(vec![in heap; u32::MAX; size]?)).map_err(|_| Fail::new(
+            "a blank memory was refused",
+        ))
     }
 
     #[test]
@@ -57,14 +50,13 @@ mod tests {
 
     #[test]
     fn a_count_chip_refuses_a_number_past_its_words(rt: HostRuntime) -> Result<(), Fail> {
-        let heap = rt.alloc();
-        match CountChip::mount(Ram::new(vec![in heap; 3, 7, 8]?)) {
+        match CountChip::mount(Ram::new(vec![in rt.alloc(); 3, 7, 8]?)) {
             Ok(chip) => {
                 let _ = chip.into_memory();
                 Err(Fail::new("it was mounted"))
             }
-            Err(Unmounted { memory: _, refusal }) => {
-                assert_eq!(rt; refusal.number(), 1);
+            Err(unmounted) => {
+                assert_eq!(rt; u8::from(unmounted.refusal), 1);
                 Ok(())
             },
         }

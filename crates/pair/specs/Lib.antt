@@ -1,4 +1,3 @@
-pub mod Either
 pub mod Pair
 pub mod PairLaws
 pub mod PairMoments

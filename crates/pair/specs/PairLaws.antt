@@ -1,54 +1,17 @@
 -- Two chips as one: words, moments and what is left at a cut.
-use Rattle.std.specs.Prelude.{◌≡◌, ℕ, ◌+◌, ◌-◌, ◌<◌, ◌≤◌, min, Bool, false, cond, ◌&&◌, List, [], ◌∷◌, ◌++◌, map, length, drop, Some, None, Ok, ◌≢◌, nat_lt, slice_index, slice_index_or, refl}
+use Rattle.std.specs.Prelude.{◌≡◌, ℕ, ◌+◌, ◌<◌, ◌≤◌, List, [], ◌∷◌, ◌++◌, map, length, drop}
 use Rattle.std.proofs.Common.{⊎_elim, inl, inr, sym, ap, subst, ◌∙◌, arith}
 use Rattle.std.specs.List.{AllByRecursion}
-use Rattle.std.proofs.lemmas.List.{append-nil, append_assoc, length-append, length_push, length-take, take_all, take-append-drop, nil_from_length, get_or-take, get_or_append_left, get_or-append_right}
-use Rattle.std.proofs.lemmas.Bool.{cases_lt, lt-ltb, le-ltb, and_from, and_left, and_right}
-use Rattle.chip.specs.Calls.{read_answer}
+use Rattle.std.proofs.lemmas.List.{append-nil, append_assoc, length-append, take_all, take-append-drop, nil_from_length}
+use Rattle.std.proofs.lemmas.Bool.{cases_lt}
 use Rattle.chip.specs.Cut.{Kept, Gapless}
-use Rattle.pair.specs.Pair.{pair_refusal, pair_words, pair_room, pair_settled, pair_early, PairMade, PairOrdered}
-use Rattle.chip.specs.declared.refusal.Refusal.{Refusal}
-use Rattle.chip.specs.declared.refusal.Refusal.TheVariants.{PairTooLarge, FirstNotFull}
-use Rattle.chip.proofs.CallLaws.{read_within}
+use Rattle.pair.specs.Pair.{PairOrdered}
 use Rattle.chip.specs.Finding.{kept_front}
 
-pub length_pair : (a b : List ℕ) → length (pair_words a b) ≡ min (length a + length b) 1048576
-length_pair a b = simp (length-take, length-append) (omega arith)
-
-pub pair_whole : (a b : List ℕ) → length a + length b ≤ 1048576 → pair_words a b ≡ a ++ b
-pair_whole a b fits = take_all 1048576 (a ++ b) (simp length-append fits)
-
--- the room, before and after the second has a word
-pub room_before : (ra rb ca cb : ℕ) → cb ≤ 0 → pair_room ra rb ca cb ≡ min 1048576 (ra + rb)
-room_before ra rb ca cb none = ap (λ b. min 1048576 (cond b ca ra + rb)) (le-ltb 0 cb none)
-
-pub room_behind : (ra rb ca cb : ℕ) → 0 < cb → pair_room ra rb ca cb ≡ min 1048576 (ca + rb)
-room_behind ra rb ca cb some = ap (λ b. min 1048576 (cond b ca ra + rb)) (lt-ltb 0 cb some)
-
-pub ordered_room : (ra rb ca cb sa : ℕ) → PairOrdered ra rb ca cb sa → pair_room ra rb ca cb ≡ ra + rb
-ordered_room ra rb ca cb sa ordered =
-    ⊎_elim (λ some. room_behind ra rb ca cb some ∙ omega (arith, ordered.within, ordered.full some)) (λ none. room_before ra rb ca cb none ∙ omega (arith, ordered.within)) (cases_lt 0 cb)
-
-pub pair_bounded : (a b : List ℕ) (ra rb sa sb : ℕ) → sa ≤ length a → length a ≤ ra → sb ≤ length b → length b ≤ rb → (pair_settled sa sb ≤ length (pair_words a b)) × (length (pair_words a b) ≤ pair_room ra rb (length a) (length b)) × (pair_room ra rb (length a) (length b) ≤ 1048576)
-pair_bounded a b ra rb sa sb ha ka hb kb =
-    let long = length_pair a b in
-    (omega arith, ⊎_elim (λ some. omega (arith, room_behind ra rb (length a) (length b) some)) (λ none. omega (arith, room_before ra rb (length a) (length b) none)) (cases_lt 0 (length b)), omega arith)
-
--- reading through both
-module _ (a b : List ℕ) (place : ℕ) (there : place < min (length a + length b) 1048576) where
-  inside : place < length (pair_words a b)
-  inside = omega (arith, length_pair a b)
-
-  joined : slice_index_or (pair_words a b) place 0 ≡ slice_index (a ++ b) place
-  joined = get_or-take 1048576 (a ++ b) place 0 (omega arith)
-
-  pub read_first : place < length a → read_answer a place ≡ read_answer (pair_words a b) place
-  read_first below =
-      read_within a place below ∙ ap Ok (sym (joined ∙ get_or_append_left a b 0 place below)) ∙ sym (read_within (pair_words a b) place inside)
-
-  pub read_second : length a ≤ place → read_answer b (place - length a) ≡ read_answer (pair_words a b) place
-  read_second above =
-      read_within b (place - length a) (omega arith) ∙ ap Ok (sym (joined ∙ get_or-append_right a b (length a) place 0 refl above)) ∙ sym (read_within (pair_words a b) place inside)
+pub pair_bounded : (a b : List ℕ) (ra rb sa sb : ℕ) → sa ≤ length a → length a ≤ ra → sb ≤ length b → length b ≤ rb → PairOrdered ra rb (length a) (length b) sa → (sa + sb ≤ length (a ++ b)) × (length (a ++ b) ≤ ra + rb) × (ra + rb ≤ 1048576)
+pair_bounded a b ra rb sa sb ha ka hb kb ordered =
+    let long = length-append a b in
+    (omega arith, omega arith, ordered.within)
 
 -- what is found is a first part, so the words begin with it
 pub kept_split : (words : List ℕ) (low : ℕ) (found : List ℕ) → Kept words low found → words ≡ found ++ drop (length found) words
@@ -74,17 +37,18 @@ kept_on_second a b sb low full found same kept below =
     subst (λ l. Kept (a ++ b) low (l ++ found)) (sym same) (kept_front (a ++ found) (drop (length found) b) (a ++ b) low (ap (λ l. a ++ l) (kept_split b sb found kept) ∙ sym (append_assoc a found (drop (length found) b))) (simp length-append (omega (arith, kept.enough))))
 
 -- a pair keeps what its chips keep
-pub pair_keeps : (a b : List ℕ) (ra rb sa sb : ℕ) (la lb : List ℕ) → Kept a sa la → Kept b sb lb → length a ≤ ra → sb ≤ length b → length b ≤ rb → PairOrdered ra rb (length a) (length b) sa → Kept (pair_words a b) (pair_settled sa sb) (la ++ lb)
-pair_keeps a b ra rb sa sb la lb ka kb fits-a settled-b fits-b ordered =
-    subst (λ w. Kept w (pair_settled sa sb) (la ++ lb)) (sym (pair_whole a b (omega (arith, ordered.within)))) (⊎_elim behind before (cases_lt 0 (length b)))
+pub pair_keeps : (a b : List ℕ) (ra rb sa sb : ℕ) (la lb : List ℕ) → Kept a sa la → Kept b sb lb → PairOrdered ra rb (length a) (length b) sa → Kept (a ++ b) (sa + sb) (la ++ lb)
+pair_keeps a b ra rb sa sb la lb ka kb ordered = ⊎_elim behind before (cases_lt 0 (length b))
   where
-    behind : 0 < length b → Kept (a ++ b) (pair_settled sa sb) (la ++ lb)
+    behind : 0 < length b → Kept (a ++ b) (sa + sb) (la ++ lb)
     behind some =
         let all = ordered.settled some in
-        kept_on_second a b sb (pair_settled sa sb) la lb (kept_all a sa la ka all) kb (omega (arith, all))
+        kept_on_second a b sb (sa + sb) la lb (kept_all a sa la ka all) kb (omega (arith, all))
 
-    before : length b ≤ 0 → Kept (a ++ b) (pair_settled sa sb) (la ++ lb)
-    before none = kept_on_first a b sa (pair_settled sa sb) la lb ka (kept_none b sb lb kb none) (omega arith)
+    before : length b ≤ 0 → Kept (a ++ b) (sa + sb) (la ++ lb)
+    before none =
+        let empty = kept_none b sb lb kb none in
+        kept_on_first a b sa (sa + sb) la lb ka empty (omega (arith, ap length empty, kb.enough))
 
 -- gapless on the second behind a fixed front, and on the first before nothing
 pub gapless_behind : (front : List ℕ) (xs : List (List ℕ)) (b c : List ℕ) → Gapless b xs c → Gapless (front ++ b) (map (λ l. front ++ l) xs) (front ++ c)
@@ -102,67 +66,3 @@ pub gapless_same : (now : List ℕ) (back : List ℕ) (xs : List (List ℕ)) (la
 gapless_same now back [] last all e = ap (λ l. l ++ back) (sym e)
 gapless_same now back (x ∷ xs) last all e =
     (inl (ap (λ l. l ++ back) all.0), subst (λ n. Gapless (n ++ back) (map (λ l. l ++ back) xs) (last ++ back)) (sym all.0) (gapless_same now back xs last all.1 e))
-
--- one word more
-pub grows_second : (a b : List ℕ) (w : ℕ) → length a + length b < 1048576 → pair_words a (b ++ w ∷ []) ≡ pair_words a b ++ w ∷ []
-grows_second a b w room =
-    pair_whole a (b ++ w ∷ []) (omega (arith, length_push b w)) ∙ sym (append_assoc a b (w ∷ [])) ∙ ap (λ l. l ++ w ∷ []) (sym (pair_whole a b (omega arith)))
-
-pub grows_first : (a b : List ℕ) (w : ℕ) → length b ≤ 0 → length a + length b < 1048576 → pair_words (a ++ w ∷ []) b ≡ pair_words a b ++ w ∷ []
-grows_first a b w none room =
-    let empty : b ≡ [] = nil_from_length b (omega arith) in
-    pair_whole (a ++ w ∷ []) b (omega (arith, length_push a w)) ∙ ap (λ l. (a ++ w ∷ []) ++ l) empty ∙ append-nil (a ++ w ∷ []) ∙ ap (λ l. l ++ w ∷ []) (sym (pair_whole a b (omega arith) ∙ ap (λ l. a ++ l) empty ∙ append-nil a))
-
--- what is found is no longer than the words
-pub kept_short : (words : List ℕ) (low : ℕ) (found : List ℕ) → Kept words low found → length found ≤ length words
-kept_short words low found kept =
-    omega (arith, ap length (kept_split words low found kept), length-append found (drop (length found) words))
-
--- why two chips make no pair
-module _ (ra rb ca cb : ℕ) where
-  pub refused_large : 1048576 < ra + rb → pair_refusal ra rb ca cb ≡ Some PairTooLarge
-  refused_large large = ap (λ t. cond t (Some PairTooLarge) (cond (nat_lt ca ra && nat_lt 0 cb) (Some FirstNotFull) None)) (lt-ltb 1048576 (ra + rb) large)
-
-  pub refused_by_order : ra + rb ≤ 1048576 → pair_refusal ra rb ca cb ≡ cond (nat_lt ca ra && nat_lt 0 cb) (Some FirstNotFull) None
-  refused_by_order small = ap (λ t. cond t (Some PairTooLarge) (cond (nat_lt ca ra && nat_lt 0 cb) (Some FirstNotFull) None)) (le-ltb 1048576 (ra + rb) small)
-
-  pub refused_gap : ra + rb ≤ 1048576 → ca < ra → 0 < cb → pair_refusal ra rb ca cb ≡ Some FirstNotFull
-  refused_gap small gap some = refused_by_order small ∙ ap (λ t. cond t (Some FirstNotFull) None) (and_from (nat_lt ca ra) (nat_lt 0 cb) (lt-ltb ca ra gap) (lt-ltb 0 cb some))
-
-  pub not_refused : ra + rb ≤ 1048576 → (0 < cb → ra ≤ ca) → pair_refusal ra rb ca cb ≡ None
-  not_refused small full =
-      refused_by_order small ∙ ap (λ t. cond t (Some FirstNotFull) None) (⊎_elim (λ some. and_left (nat_lt ca ra) (nat_lt 0 cb) (le-ltb ca ra (full some))) (λ none. and_right (nat_lt ca ra) (nat_lt 0 cb) (le-ltb 0 cb none)) (cases_lt 0 cb))
-
-  pub some_is_not_none : (why : Refusal) → pair_refusal ra rb ca cb ≡ None → pair_refusal ra rb ca cb ≢ Some why
-  some_is_not_none why none some =
-      let zero_one : ◌≡◌ {A = ℕ} 0 1 = cc in
-      omega arith
-
-  pub made_within : pair_refusal ra rb ca cb ≡ None → ra + rb ≤ 1048576
-  made_within none = ⊎_elim (λ large. absurd (some_is_not_none PairTooLarge none (refused_large large))) (λ small. small) (cases_lt 1048576 (ra + rb))
-
-  pub made_full : pair_refusal ra rb ca cb ≡ None → 0 < cb → ra ≤ ca
-  made_full none some = ⊎_elim (λ gap. absurd (some_is_not_none FirstNotFull none (refused_gap (made_within none) gap some))) (λ full. full) (cases_lt ca ra)
-
--- how many are settled after one more word
-module _ (ra ca cb sa sb ea eb : ℕ) where
-  abbrev choice : Bool → Bool → ℕ
-  choice behind gap = min 1048576 (cond behind (sa + eb) (cond gap (ea + sb) (ca + eb)))
-
-  pub early_behind : 0 < cb → pair_early ra ca cb sa sb ea eb ≡ min 1048576 (sa + eb)
-  early_behind some = ap (λ b. choice b (nat_lt ca ra)) (lt-ltb 0 cb some)
-
-  pub early_before : cb ≤ 0 → ca < ra → pair_early ra ca cb sa sb ea eb ≡ min 1048576 (ea + sb)
-  early_before none gap = ap (λ b. choice b (nat_lt ca ra)) (le-ltb 0 cb none) ∙ ap (choice false) (lt-ltb ca ra gap)
-
-  pub early_first_behind : cb ≤ 0 → ra ≤ ca → pair_early ra ca cb sa sb ea eb ≡ min 1048576 (ca + eb)
-  early_first_behind none full = ap (λ b. choice b (nat_lt ca ra)) (le-ltb 0 cb none) ∙ ap (choice false) (le-ltb ca ra full)
-
--- a new pair, of chips that are not refused
-pub pair_made : (a b : List ℕ) (ra rb sb : ℕ) (a' : List ℕ) (ra' sa' : ℕ) → pair_refusal ra rb (length a) (length b) ≡ None → length a ≤ ra → sb ≤ length b → length b ≤ rb → a' ≡ a → ra' ≡ ra → sa' ≡ length a → PairMade a b ra rb sb a' b ra' rb sa' sb
-pair_made a b ra rb sb a' ra' sa' none fits-a settled-b fits-b same room settled =
-    let small = made_within ra rb (length a) (length b) none in
-    let long : length a' ≡ length a = ap length same in
-    let ordered : PairOrdered ra' rb (length a') (length b) sa' =
-    record { within = omega arith; full = λ some. omega (arith, made_full ra rb (length a) (length b) none some); settled = λ _. omega arith } in
-    record { not_refused = none; words = ap (λ l. pair_words l b) same ∙ pair_whole a b (omega arith); room = ordered_room ra' rb (length a') (length b) sa' ordered ∙ omega arith; settled = omega arith; ordered = ordered }

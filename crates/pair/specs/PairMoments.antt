@@ -10,32 +10,32 @@ use Rattle.pair.specs.Pair.PairPasses.{still, first_moves, first_stays, second_m
 use Rattle.chip.specs.LeafLaws.{gapless_joined}
 use Rattle.pair.specs.PairLaws.{gapless_behind, gapless_before, gapless_same, kept_all, kept_none, kept_on_first, kept_on_second}
 
-module _ {A B : Type 0} (passes-first : A → List (List ℕ) → A → Type 0) (passes-second : B → List (List ℕ) → B → Type 0) (room-first : A → ℕ) (left-first : A → List ℕ) (left-second : B → List ℕ) where
+module _ {A B : Type 0} (passes_first : A → List (List ℕ) → A → Type 0) (passes_second : B → List (List ℕ) → B → Type 0) (room_first : A → ℕ) (left_first : A → List ℕ) (left_second : B → List ℕ) where
   abbrev Passes : A → B → List (List ℕ) → A → B → Type 0
-  Passes = PairPasses passes-first passes-second room-first left-first left-second
+  Passes = PairPasses passes_first passes_second room_first left_first left_second
 
   pub pair_joined : {a c : A} {b d : B} {xs : List (List ℕ)} → Passes a b xs c d → (e : A) (f : B) (ys : List (List ℕ)) → Passes c d ys e f → Passes a b (xs ++ ys) e f
   pair_joined still e f ys more = more
   pair_joined (first_moves {a = a} {b = b} {moments = ms} {more = rest} step none tail) e f ys more =
-      subst (λ l. Passes a b l e f) (sym (append_assoc (map (λ l. l ++ left-second b) ms) rest ys)) (first_moves step none (pair_joined tail e f ys more))
+      subst (λ l. Passes a b l e f) (sym (append_assoc (map (λ l. l ++ left_second b) ms) rest ys)) (first_moves step none (pair_joined tail e f ys more))
   pair_joined (first_stays {a = a} {b = b} {moments = ms} {more = rest} step fit same last tail) e f ys more =
-      subst (λ l. Passes a b l e f) (sym (append_assoc (map (λ l. l ++ left-second b) ms) rest ys)) (first_stays step fit same last (pair_joined tail e f ys more))
+      subst (λ l. Passes a b l e f) (sym (append_assoc (map (λ l. l ++ left_second b) ms) rest ys)) (first_stays step fit same last (pair_joined tail e f ys more))
   pair_joined (second_moves {a = a} {b = b} {moments = ms} {more = rest} step full tail) e f ys more =
-      subst (λ l. Passes a b l e f) (sym (append_assoc (map (λ l. left-first a ++ l) ms) rest ys)) (second_moves step full (pair_joined tail e f ys more))
+      subst (λ l. Passes a b l e f) (sym (append_assoc (map (λ l. left_first a ++ l) ms) rest ys)) (second_moves step full (pair_joined tail e f ys more))
   pair_joined (second_stays {a = a} {b = b} {moments = ms} {more = rest} step fit same last tail) e f ys more =
-      subst (λ l. Passes a b l e f) (sym (append_assoc (map (λ l. left-first a ++ l) ms) rest ys)) (second_stays step fit same last (pair_joined tail e f ys more))
+      subst (λ l. Passes a b l e f) (sym (append_assoc (map (λ l. left_first a ++ l) ms) rest ys)) (second_stays step fit same last (pair_joined tail e f ys more))
 
-  module _ (gapless-first : (a b : A) (xs : List (List ℕ)) → passes-first a xs b → Gapless (left-first a) xs (left-first b)) (gapless-second : (a b : B) (xs : List (List ℕ)) → passes-second a xs b → Gapless (left-second a) xs (left-second b)) where
-    pub pair_gapless : {a c : A} {b d : B} {xs : List (List ℕ)} → Passes a b xs c d → Gapless (left-first a ++ left-second b) xs (left-first c ++ left-second d)
+  module _ (gapless_first : (a b : A) (xs : List (List ℕ)) → passes_first a xs b → Gapless (left_first a) xs (left_first b)) (gapless_second : (a b : B) (xs : List (List ℕ)) → passes_second a xs b → Gapless (left_second a) xs (left_second b)) where
+    pub pair_gapless : {a c : A} {b d : B} {xs : List (List ℕ)} → Passes a b xs c d → Gapless (left_first a ++ left_second b) xs (left_first c ++ left_second d)
     pair_gapless still = refl
     pair_gapless (first_moves {a = a} {a' = a'} {c = c} {b = b} {d = d} {moments = ms} {more = rest} step none tail) =
-        gapless_joined (map (λ l. l ++ left-second b) ms) rest (left-first a ++ left-second b) (left-first a' ++ left-second b) (left-first c ++ left-second d) (gapless_before (left-second b) ms (left-first a) (left-first a') none (gapless-first a a' ms step)) (pair_gapless tail)
+        gapless_joined (map (λ l. l ++ left_second b) ms) rest (left_first a ++ left_second b) (left_first a' ++ left_second b) (left_first c ++ left_second d) (gapless_before (left_second b) ms (left_first a) (left_first a') none (gapless_first a a' ms step)) (pair_gapless tail)
     pair_gapless (first_stays {a = a} {a' = a'} {c = c} {b = b} {d = d} {moments = ms} {more = rest} step fit same last tail) =
-        gapless_joined (map (λ l. l ++ left-second b) ms) rest (left-first a ++ left-second b) (left-first a' ++ left-second b) (left-first c ++ left-second d) (gapless_same (left-first a) (left-second b) ms (left-first a') same last) (pair_gapless tail)
+        gapless_joined (map (λ l. l ++ left_second b) ms) rest (left_first a ++ left_second b) (left_first a' ++ left_second b) (left_first c ++ left_second d) (gapless_same (left_first a) (left_second b) ms (left_first a') same last) (pair_gapless tail)
     pair_gapless (second_moves {a = a} {c = c} {b = b} {b' = b'} {d = d} {moments = ms} {more = rest} step full tail) =
-        gapless_joined (map (λ l. left-first a ++ l) ms) rest (left-first a ++ left-second b) (left-first a ++ left-second b') (left-first c ++ left-second d) (gapless_behind (left-first a) ms (left-second b) (left-second b') (gapless-second b b' ms step)) (pair_gapless tail)
+        gapless_joined (map (λ l. left_first a ++ l) ms) rest (left_first a ++ left_second b) (left_first a ++ left_second b') (left_first c ++ left_second d) (gapless_behind (left_first a) ms (left_second b) (left_second b') (gapless_second b b' ms step)) (pair_gapless tail)
     pair_gapless (second_stays {a = a} {c = c} {b = b} {b' = b'} {d = d} {moments = ms} {more = rest} step fit same last tail) =
-        gapless_joined (map (λ l. left-first a ++ l) ms) rest (left-first a ++ left-second b) (left-first a ++ left-second b') (left-first c ++ left-second d) (gapless_behind (left-first a) ms (left-second b) (left-second b') (gapless-second b b' ms step)) (pair_gapless tail)
+        gapless_joined (map (λ l. left_first a ++ l) ms) rest (left_first a ++ left_second b) (left_first a ++ left_second b') (left_first c ++ left_second d) (gapless_behind (left_first a) ms (left_second b) (left_second b') (gapless_second b b' ms step)) (pair_gapless tail)
 
   -- the moments from one state of both to another, each with a first part of `words` that has at least `low` of them
   abbrev pub Seen : A → B → A → B → List ℕ → ℕ → Type 0
@@ -51,18 +51,18 @@ module _ {A B : Type 0} (passes-first : A → List (List ℕ) → A → Type 0) 
     mapped f words bound each xs kept =
         All-append (Kept (wa ++ wb) low) (map f xs) [] (All-map (Kept (wa ++ wb) low) f xs (All-weaker (Kept words bound) (λ l. Kept (wa ++ wb) low (f l)) each xs kept)) tt
 
-    pub seen_first : (a a' : A) (b : B) (xs : List (List ℕ)) → passes-first a xs a' → left-second b ≡ [] → AllByRecursion (Kept wa sa) xs → low ≤ sa → Seen a b a' b (wa ++ wb) low
+    pub seen_first : (a a' : A) (b : B) (xs : List (List ℕ)) → passes_first a xs a' → left_second b ≡ [] → AllByRecursion (Kept wa sa) xs → low ≤ sa → Seen a b a' b (wa ++ wb) low
     seen_first a a' b xs step none kept below =
-        (map (λ l. l ++ left-second b) xs ++ [], first_moves step none still, mapped (λ l. l ++ left-second b) wa sa (λ l k. kept_on_first wa wb sa low l (left-second b) k none below) xs kept)
+        (map (λ l. l ++ left_second b) xs ++ [], first_moves step none still, mapped (λ l. l ++ left_second b) wa sa (λ l k. kept_on_first wa wb sa low l (left_second b) k none below) xs kept)
 
-    pub seen_first_stays : (a a' : A) (b : B) (xs : List (List ℕ)) → passes-first a xs a' → AllByRecursion (Kept wa sa) xs → sa ≡ length wa → length (left-first a) ≡ room-first a → left-first a ≡ wa → left-first a' ≡ wa → Kept wb sb (left-second b) → low ≤ length wa + sb → Seen a b a' b (wa ++ wb) low
+    pub seen_first_stays : (a a' : A) (b : B) (xs : List (List ℕ)) → passes_first a xs a' → AllByRecursion (Kept wa sa) xs → sa ≡ length wa → length (left_first a) ≡ room_first a → left_first a ≡ wa → left_first a' ≡ wa → Kept wb sb (left_second b) → low ≤ length wa + sb → Seen a b a' b (wa ++ wb) low
     seen_first_stays a a' b xs step kept all full here there second below =
-        (map (λ l. l ++ left-second b) xs ++ [], first_stays step full (All-weaker (Kept wa sa) (λ l. l ≡ left-first a) (λ l k. kept_all wa sa l k all ∙ sym here) xs kept) (there ∙ sym here) still, mapped (λ l. l ++ left-second b) wa sa (λ l k. kept_on_second wa wb sb low l (left-second b) (kept_all wa sa l k all) second below) xs kept)
+        (map (λ l. l ++ left_second b) xs ++ [], first_stays step full (All-weaker (Kept wa sa) (λ l. l ≡ left_first a) (λ l k. kept_all wa sa l k all ∙ sym here) xs kept) (there ∙ sym here) still, mapped (λ l. l ++ left_second b) wa sa (λ l k. kept_on_second wa wb sb low l (left_second b) (kept_all wa sa l k all) second below) xs kept)
 
-    pub seen_second : (a : A) (b b' : B) (ys : List (List ℕ)) → passes-second b ys b' → length (left-first a) ≡ room-first a → left-first a ≡ wa → AllByRecursion (Kept wb sb) ys → low ≤ length wa + sb → Seen a b a b' (wa ++ wb) low
+    pub seen_second : (a : A) (b b' : B) (ys : List (List ℕ)) → passes_second b ys b' → length (left_first a) ≡ room_first a → left_first a ≡ wa → AllByRecursion (Kept wb sb) ys → low ≤ length wa + sb → Seen a b a b' (wa ++ wb) low
     seen_second a b b' ys step full here kept below =
-        (map (λ l. left-first a ++ l) ys ++ [], second_moves step full still, mapped (λ l. left-first a ++ l) wb sb (λ l k. kept_on_second wa wb sb low (left-first a) l here k below) ys kept)
+        (map (λ l. left_first a ++ l) ys ++ [], second_moves step full still, mapped (λ l. left_first a ++ l) wb sb (λ l k. kept_on_second wa wb sb low (left_first a) l here k below) ys kept)
 
-    pub seen_second_stays : (a : A) (b b' : B) (ys : List (List ℕ)) → passes-second b ys b' → left-first a ≡ wa → left-second b ≡ [] → left-second b' ≡ [] → length wb ≤ 0 → AllByRecursion (Kept wb sb) ys → low ≤ length wa + sb → Seen a b a b' (wa ++ wb) low
+    pub seen_second_stays : (a : A) (b b' : B) (ys : List (List ℕ)) → passes_second b ys b' → left_first a ≡ wa → left_second b ≡ [] → left_second b' ≡ [] → length wb ≤ 0 → AllByRecursion (Kept wb sb) ys → low ≤ length wa + sb → Seen a b a b' (wa ++ wb) low
     seen_second_stays a b b' ys step here none none' empty kept below =
-        (map (λ l. left-first a ++ l) ys ++ [], second_stays step none (All-weaker (Kept wb sb) (λ l. l ≡ left-second b) (λ l k. kept_none wb sb l k empty ∙ sym none) ys kept) (none' ∙ sym none) still, mapped (λ l. left-first a ++ l) wb sb (λ l k. kept_on_second wa wb sb low (left-first a) l here k below) ys kept)
+        (map (λ l. left_first a ++ l) ys ++ [], second_stays step none (All-weaker (Kept wb sb) (λ l. l ≡ left_second b) (λ l k. kept_none wb sb l k empty ∙ sym none) ys kept) (none' ∙ sym none) still, mapped (λ l. left_first a ++ l) wb sb (λ l k. kept_on_second wa wb sb low (left_first a) l here k below) ys kept)

@@ -1,7 +1,7 @@
 // Two chips as one: words go to the second once the first is full and settled.
-ghost use Rattle.std.specs.Prelude.{◌≡◌, ℕ, ◌+◌, ◌≤◌, min, Bool, true, List, [], ◌++◌, length, is_ok, IfOk, Some, MatchResult};
+ghost use Rattle.std.specs.Prelude.{◌≡◌, ℕ, ◌+◌, ◌≤◌, Bool, true, List, [], ◌++◌, length, is_ok, IfOk, Some, None, MatchResult};
 ghost use Rattle.chip.specs.Calls.{append_answer, append_leaves, Moments};
-ghost use Rattle.pair.specs.Pair.{pair_refusal, pair_words, pair_room, pair_settled, pair_early, PairMade, PairOrdered, PairPasses};
+ghost use Rattle.pair.specs.Pair.{pair_refusal, pair_early, PairOrdered, PairPasses};
 ghost use Rattle.pair.specs.PairLaws.{pair_bounded, pair_keeps};
 ghost use Rattle.pair.specs.Pair.PairPasses.{still};
 ghost use Rattle.pair.specs.PairMoments.{pair_joined, pair_gapless};
@@ -13,6 +13,7 @@ use chip::words::{BLANK, MOST};
 pub struct Pair<A: Chip, B: Chip> {
     first: A,
     second: B,
+    ghost ordered: { PairOrdered (A.Chip.room first) (B.Chip.room second) (length (A.Chip.accepted first)) (length (B.Chip.accepted second)) (A.Chip.settled first) },
 }
 
 // Two chips that were refused as a pair.
@@ -32,7 +33,7 @@ fn append_behind<A: Chip, B: Chip>(first: &A, second: &mut B, word: u32) -> Resu
     ensures same_room { B.Chip.room second.new ≡ B.Chip.room second.old }
     ensures free_settled { B.Chip.settled second.old ≤ B.Chip.settled second.new }
     ensures settles_early { is_ok result ≡ true → B.Chip.settled second.new ≡ B.Chip.early second.old }
-    ensures cut_inside { B.Chip.intact second.old → B.Chip.intact second.new × Moments B.Chip.passes second.old second.new (B.Chip.accepted second.new) (B.Chip.settled second.old) }
+    ensures cut_inside { Moments B.Chip.passes second.old second.new (B.Chip.accepted second.new) (B.Chip.settled second.old) }
 {
     second.append(word)
 }
@@ -40,10 +41,10 @@ fn append_behind<A: Chip, B: Chip>(first: &A, second: &mut B, word: u32) -> Resu
 impl<A: Chip, B: Chip> Pair<A, B> {
     // Settles the first chip and puts the second behind it; two that do not fit are handed back.
     pub fn new(mut first: A, second: B) -> Result<Pair<A, B>, Unpaired<A, B>>
-        ensures made { MatchResult result (λ p. PairMade (A.Chip.accepted first) (B.Chip.accepted second) (A.Chip.room first) (B.Chip.room second) (B.Chip.settled second) (A.Chip.accepted p.first) (B.Chip.accepted p.second) (A.Chip.room p.first) (B.Chip.room p.second) (A.Chip.settled p.first) (B.Chip.settled p.second)) (λ e. pair_refusal (A.Chip.room first) (B.Chip.room second) (length (A.Chip.accepted first)) (length (B.Chip.accepted second)) ≡ Some e.refusal) }
+        ensures made { MatchResult result (λ _. pair_refusal (A.Chip.room first) (B.Chip.room second) (length (A.Chip.accepted first)) (length (B.Chip.accepted second)) ≡ None) (λ e. pair_refusal (A.Chip.room first) (B.Chip.room second) (length (A.Chip.accepted first)) (length (B.Chip.accepted second)) ≡ Some e.refusal) }
         ensures first_settled { MatchResult result (λ p. (A.Chip.accepted p.first ≡ A.Chip.accepted first) × (A.Chip.settled p.first ≡ length (A.Chip.accepted first)) × (A.Chip.room p.first ≡ A.Chip.room first)) (λ e. e.first ≡ first) }
         ensures same_second { MatchResult result (λ p. p.second ≡ second) (λ e. e.second ≡ second) }
-        ensures cut_inside { IfOk result (λ p. A.Chip.intact first → A.Chip.intact p.first × Moments A.Chip.passes first p.first (A.Chip.accepted first) (A.Chip.settled first)) }
+        ensures cut_inside { IfOk result (λ p. Moments A.Chip.passes first p.first (A.Chip.accepted first) (A.Chip.settled first)) }
     {
         if first.capacity() as usize + second.capacity() as usize > MOST {
             return Err(Unpaired {
@@ -84,15 +85,13 @@ impl<A: Chip, B: Chip> Pair<A, B> {
 }
 
 impl<A: Chip, B: Chip> Chip for Pair<A, B> {
-    ghost accepted = { λ s. pair_words (A.Chip.accepted s.first) (B.Chip.accepted s.second) };
+    ghost accepted = { λ s. A.Chip.accepted s.first ++ B.Chip.accepted s.second };
 
-    ghost settled = { λ s. pair_settled (A.Chip.settled s.first) (B.Chip.settled s.second) };
+    ghost settled = { λ s. A.Chip.settled s.first + B.Chip.settled s.second };
 
-    ghost room = { λ s. pair_room (A.Chip.room s.first) (B.Chip.room s.second) (length (A.Chip.accepted s.first)) (length (B.Chip.accepted s.second)) };
+    ghost room = { λ s. A.Chip.room s.first + B.Chip.room s.second };
 
     ghost early = { λ s. pair_early (A.Chip.room s.first) (length (A.Chip.accepted s.first)) (length (B.Chip.accepted s.second)) (A.Chip.settled s.first) (B.Chip.settled s.second) (A.Chip.early s.first) (B.Chip.early s.second) };
-
-    ghost intact = { λ s. A.Chip.intact s.first × B.Chip.intact s.second × PairOrdered (A.Chip.room s.first) (B.Chip.room s.second) (length (A.Chip.accepted s.first)) (length (B.Chip.accepted s.second)) (A.Chip.settled s.first) };
 
     ghost left = { λ s. A.Chip.left s.first ++ B.Chip.left s.second };
 
@@ -101,12 +100,9 @@ impl<A: Chip, B: Chip> Chip for Pair<A, B> {
     ghost bounded = { λ s.
         let first = A.Chip.bounded s.first in
         let second = B.Chip.bounded s.second in
-        pair_bounded (A.Chip.accepted s.first) (B.Chip.accepted s.second) (A.Chip.room s.first) (B.Chip.room s.second) (A.Chip.settled s.first) (B.Chip.settled s.second) first.0 first.1 second.0 second.1 };
+        pair_bounded (A.Chip.accepted s.first) (B.Chip.accepted s.second) (A.Chip.room s.first) (B.Chip.room s.second) (A.Chip.settled s.first) (B.Chip.settled s.second) first.0 first.1 second.0 second.1 s.ordered };
 
-    ghost keeps = { λ s intact.
-        let first = A.Chip.bounded s.first in
-        let second = B.Chip.bounded s.second in
-        pair_keeps (A.Chip.accepted s.first) (B.Chip.accepted s.second) (A.Chip.room s.first) (B.Chip.room s.second) (A.Chip.settled s.first) (B.Chip.settled s.second) (A.Chip.left s.first) (B.Chip.left s.second) (A.Chip.keeps s.first intact.0) (B.Chip.keeps s.second intact.1) first.1 second.0 second.1 intact.2 };
+    ghost keeps = { λ s. pair_keeps (A.Chip.accepted s.first) (B.Chip.accepted s.second) (A.Chip.room s.first) (B.Chip.room s.second) (A.Chip.settled s.first) (B.Chip.settled s.second) (A.Chip.left s.first) (B.Chip.left s.second) (A.Chip.keeps s.first) (B.Chip.keeps s.second) s.ordered };
 
     ghost rests = { λ s. still };
 
@@ -115,16 +111,11 @@ impl<A: Chip, B: Chip> Chip for Pair<A, B> {
     ghost gapless = { λ a b xs here. pair_gapless A.Chip.passes B.Chip.passes A.Chip.room A.Chip.left B.Chip.left A.Chip.gapless B.Chip.gapless here };
 
     fn capacity(&self) -> u32 {
-        let first = if self.second.count() > 0 {
-            self.first.count()
-        } else {
-            self.first.capacity()
-        };
-        (first + self.second.capacity()).min(MOST as u32)
+        self.first.capacity() + self.second.capacity()
     }
 
     fn count(&self) -> u32 {
-        (self.first.count() + self.second.count()).min(MOST as u32)
+        self.first.count() + self.second.count()
     }
 
     fn read_word(&self, place: u32) -> Result<u32, Refusal> {

@@ -1,6 +1,6 @@
 -- Several memories rewound together.
-use Rattle.std.proofs.Common.{◌≡◌, ℕ, suc, min, List, [], ◌∷◌, ◌++◌, map, length, take, drop, sym, refl, ap, ◌∙◌, ⊎_elim, arith}
-use Rattle.std.proofs.lemmas.List.{take_all, drop_all, append_assoc, map-append}
+use Rattle.std.proofs.Common.{◌≡◌, ℕ, suc, min, List, [], ◌∷◌, ◌++◌, length, take, drop, sym, refl, ap, ◌∙◌, ⊎_elim, arith}
+use Rattle.std.proofs.lemmas.List.{take_all, drop_all}
 use Rattle.std.proofs.lemmas.Bool.{cases_lt}
 use Rattle.staging.specs.Below.{rewound_memory, rewound_all}
 use Rattle.staging.specs.declared.traced.Traced.{Traced}
@@ -30,8 +30,3 @@ take_least counts n k least =
 pub drop_least : (counts : List ℕ) (n k : ℕ) → k ≡ min n (length counts) → drop k counts ≡ drop n counts
 drop_least counts n k least =
     ⊎_elim (λ lt. ap (λ m. drop m counts) (omega (arith, least, lt))) (λ le. drop_all k counts (omega (arith, least, le)) ∙ sym (drop_all n counts le)) (cases_lt n (length counts))
-
--- two lists of memories, added one after the other
-pub both_added : {X Y : Type 0} (f : X → Y) (p q r : List Y) (a b c d : List X) → c ≡ a → d ≡ b → q ≡ p ++ map f c → r ≡ q ++ map f d → r ≡ p ++ map f (a ++ b)
-both_added f p q r a b c d first second here there =
-    there ∙ ap (λ l. l ++ map f d) here ∙ append_assoc p (map f c) (map f d) ∙ ap (λ l. p ++ (map f l ++ map f d)) first ∙ ap (λ l. p ++ (map f a ++ map f l)) second ∙ ap (λ l. p ++ l) (sym (map-append f a b))

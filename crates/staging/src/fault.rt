@@ -2,14 +2,16 @@
 ghost use Rattle.std.specs.Prelude.{◌≡◌};
 ghost use Rattle.staging.specs.declared.fault.StageFault.TheVariants.{Memory, Refused as RefusedBy};
 
-use chip::refusal::Refusal;
+use chip::refusal::{Refusal, Unmounted};
 use std::alloc::{AllocError, AllocFailed};
+use thiserror::Error;
 
-#[derive(Debug, Drop)]
+#[derive(Clone, Copy, PartialEq, Eq, Debug, Error)]
 pub enum StageFault {
-    // memory ran out
+    #[error("no memory is left")]
     Memory,
     // a mount refused what a memory held
+    #[error("{0}")]
     Refused(Refusal),
 }
 
@@ -29,10 +31,10 @@ impl<T: Drop> From<AllocFailed<T>> for StageFault {
     }
 }
 
-impl From<Refusal> for StageFault {
-    ghost from_gives = { λ e r. r ≡ RefusedBy e };
+impl<M: Drop> From<Unmounted<M>> for StageFault {
+    ghost from_gives = { λ e r. r ≡ RefusedBy e.refusal };
 
-    fn from(e: Refusal) -> StageFault {
-        StageFault::Refused(e)
+    fn from(e: Unmounted<M>) -> StageFault {
+        StageFault::Refused(e.refusal)
     }
 }

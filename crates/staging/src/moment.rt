@@ -17,22 +17,21 @@ pub fn counts_at(
 {
     let mut counts = Vec::new(heap);
     let mut left = stores;
-    for i in 0..before.len().min(after.len()) {
-        let here = after[i].saturating_sub(before[i]).min(left);
-        counts.push(before[i] + here)?;
+    for (start, end) in before.iter().zip(after) {
+        let here = end.saturating_sub(*start).min(left);
+        counts.push(start + here)?;
         left -= here;
     }
     Ok(counts)
 }
 
 // How many stores a call made.
-#[tactic(auto, using(crate::proofs::SpreadLaws::made_more, crate::proofs::SpreadLaws::made_end))]
 pub fn stores_between(before: &[usize], after: &[usize]) -> usize
     ensures { result ≡ min 18446744073709551615 (made_by before.now after.now) }
 {
     let mut sum = 0usize;
-    for i in 0..before.len().min(after.len()) {
-        sum = sum.saturating_add(after[i].saturating_sub(before[i]));
+    for (start, end) in before.iter().zip(after) {
+        sum = sum.saturating_add(end.saturating_sub(*start));
     }
     sum
 }

@@ -1,21 +1,18 @@
 // Chips over traced memories: what a mount finds if the power goes inside a call.
-ghost use Rattle.std.specs.Prelude.{◌≡◌, ℕ, min, List, [], ◌∷◌, ◌++◌, map, length, take, drop, IfOk, vec_items, MatchResult, OnOk, slice_index_or};
+ghost use Rattle.std.specs.Prelude.{◌≡◌, ℕ, min, List, [], ◌∷◌, ◌++◌, map, length, take, drop, IfOk, vec_items, OnOk, slice_index_or};
 ghost use Rattle.chip.specs.Count.{count_words};
-ghost use Rattle.pair.specs.Either.{of_inside};
 ghost use Rattle.chip.specs.Page.{page_found};
-ghost use Rattle.pair.specs.Pair.{pair_words};
-ghost use Rattle.staging.specs.Below.{held_words, noted_stores, rewound_memory, rewound_all};
-ghost use Rattle.staging.specs.declared.fault.StageFault.TheVariants.{Memory as NoMemory};
+ghost use Rattle.either.specs.Either.{either};
+ghost use Rattle.staging.specs.Below.{held_words, noted_stores, rewound_all};
 ghost use Rattle.staging.specs.declared.traced.Traced.{Traced as TracedMemories};
 
 use crate::fault::StageFault;
 use crate::traced::Traced;
 use chip::chip::Chip;
 use chip::count::CountChip;
-use chip::memory::Memory;
 use chip::page::PageChip;
 use chip::refusal::Unmounted;
-use pair::either::Either;
+use either::Either;
 use pair::pair::{Pair, Unpaired};
 use std::alloc::Global;
 
@@ -41,92 +38,90 @@ pub trait Staged: Chip {
     // A chip of this shape, mounted on what each memory held after as many stores as `counts` says; a memory
     // behind the end of `counts` as it is now.
     fn remounted(&self, heap: Global, counts: &[usize]) -> Result<Self, StageFault>
-        ensures { IfOk result (λ c. Self.Chip.intact c × (Self.Chip.accepted c ≡ finds self.now (rewound_all (below self.now) counts.now)) × (Self.Chip.settled c ≡ length (Self.Chip.accepted c))) };
+        ensures { IfOk result (λ c. (Self.Chip.accepted c ≡ finds self.now (rewound_all (below self.now) counts.now)) × (Self.Chip.settled c ≡ length (Self.Chip.accepted c))) };
 
     // Lets go of the chip, which a generic function cannot do otherwise.
     fn discard(self);
 }
 
-// The first count, or without one `all`.
-fn first_count(counts: &[usize], all: usize) -> usize
-    ensures { result ≡ slice_index_or counts.now 0 all }
-{
-    if counts.len() > 0 { counts[0] } else { all }
+// A chip over one traced memory.
+pub trait Leaf: Chip {
+    // The memory below it.
+    ghost under: { Self → TracedMemories };
+
+    // The words that a mount of such a chip finds.
+    ghost found: { List ℕ → List ℕ };
+
+    fn on(memory: Traced) -> Result<Self, Unmounted<Traced>>
+        ensures { IfOk result (λ c. (Self.Chip.accepted c ≡ found (held_words memory)) × (Self.Chip.settled c ≡ length (Self.Chip.accepted c))) };
+
+    fn memory(&self) -> &Traced
+        ensures { result.now ≡ under self.now };
+
+    fn into_memory(self) -> Traced
+        ensures { result ≡ under self };
 }
 
-// What a memory held after as many stores as the first count says.
-fn rewound(memory: &Traced, heap: Global, counts: &[usize]) -> Result<Traced, StageFault>
-    ensures { MatchResult result (λ m. held_words m ≡ rewound_memory memory.now counts.now) (λ e. e ≡ NoMemory) }
-{
-    let stores = first_count(counts, memory.stores());
-    Ok(Traced::new(heap, memory.after(heap, stores)?))
+impl Leaf for PageChip<Traced> {
+    ghost under = { λ s. s.memory };
+
+    ghost found = { page_found };
+
+    fn on(memory: Traced) -> Result<PageChip<Traced>, Unmounted<Traced>> {
+        PageChip::mount(memory)
+    }
+
+    fn memory(&self) -> &Traced {
+        self.memory()
+    }
+
+    fn into_memory(self) -> Traced {
+        self.into_memory()
+    }
 }
 
-fn note_memory(memory: &Traced, out: &mut Vec<usize>) -> Result<(), StageFault>
-    ensures { OnOk result (out.new.items ≡ out.old.items ++ noted_stores memory.now ∷ []) }
-{
-    out.push(memory.stores())?;
-    Ok(())
+impl Leaf for CountChip<Traced> {
+    ghost under = { λ s. s.memory };
+
+    ghost found = { count_words };
+
+    fn on(memory: Traced) -> Result<CountChip<Traced>, Unmounted<Traced>> {
+        CountChip::mount(memory)
+    }
+
+    fn memory(&self) -> &Traced {
+        self.memory()
+    }
+
+    fn into_memory(self) -> Traced {
+        self.into_memory()
+    }
 }
 
-fn copy_memory(memory: &Traced, heap: Global, out: &mut Vec<Vec<u32>>) -> Result<(), StageFault>
-    ensures { OnOk result (map vec_items out.new.items ≡ map vec_items out.old.items ++ held_words memory.now ∷ []) }
-{
-    out.push(Vec::from_slice(heap, memory.words())?)?;
-    Ok(())
-}
+impl<C: Leaf> Staged for C {
+    ghost below = { λ s. C.Leaf.under s ∷ [] };
 
-impl Staged for PageChip<Traced> {
-    ghost below = { λ s. s.memory ∷ [] };
-
-    ghost finds = { λ _ ws. page_found (slice_index_or ws 0 []) };
+    ghost finds = { λ _ ws. C.Leaf.found (slice_index_or ws 0 []) };
 
     fn memories(&self) -> usize {
         1
     }
 
     fn note_stores(&self, out: &mut Vec<usize>) -> Result<(), StageFault> {
-        note_memory(self.memory(), out)
+        out.push(self.memory().stores())?;
+        Ok(())
     }
 
     fn copy_images(&self, heap: Global, out: &mut Vec<Vec<u32>>) -> Result<(), StageFault> {
-        copy_memory(self.memory(), heap, out)
+        out.push(Vec::from_slice(heap, self.memory().words())?)?;
+        Ok(())
     }
 
-    fn remounted(&self, heap: Global, counts: &[usize]) -> Result<PageChip<Traced>, StageFault> {
-        match PageChip::mount(rewound(self.memory(), heap, counts)?) {
-            Ok(chip) => Ok(chip),
-            Err(Unmounted { memory: _, refusal }) => Err(StageFault::Refused(refusal)),
-        }
-    }
-
-    fn discard(self) {
-        let _ = self.into_memory();
-    }
-}
-
-impl Staged for CountChip<Traced> {
-    ghost below = { λ s. s.memory ∷ [] };
-
-    ghost finds = { λ _ ws. count_words (slice_index_or ws 0 []) };
-
-    fn memories(&self) -> usize {
-        1
-    }
-
-    fn note_stores(&self, out: &mut Vec<usize>) -> Result<(), StageFault> {
-        note_memory(self.memory(), out)
-    }
-
-    fn copy_images(&self, heap: Global, out: &mut Vec<Vec<u32>>) -> Result<(), StageFault> {
-        copy_memory(self.memory(), heap, out)
-    }
-
-    fn remounted(&self, heap: Global, counts: &[usize]) -> Result<CountChip<Traced>, StageFault> {
-        match CountChip::mount(rewound(self.memory(), heap, counts)?) {
-            Ok(chip) => Ok(chip),
-            Err(Unmounted { memory: _, refusal }) => Err(StageFault::Refused(refusal)),
-        }
+    fn remounted(&self, heap: Global, counts: &[usize]) -> Result<C, StageFault> {
+        let memory = self.memory();
+        let stores = counts.first().copied().unwrap_or(memory.stores());
+        let before = Traced::new(heap, memory.after(heap, stores)?);
+        Ok(C::on(before)?)
     }
 
     fn discard(self) {
@@ -137,7 +132,7 @@ impl Staged for CountChip<Traced> {
 impl<A: Staged, B: Staged> Staged for Pair<A, B> {
     ghost below = { λ s. A.Staged.below s.first ++ B.Staged.below s.second };
 
-    ghost finds = { λ s ws. pair_words (A.Staged.finds s.first (take (length (A.Staged.below s.first)) ws)) (B.Staged.finds s.second (drop (length (A.Staged.below s.first)) ws)) };
+    ghost finds = { λ s ws. A.Staged.finds s.first (take (length (A.Staged.below s.first)) ws) ++ B.Staged.finds s.second (drop (length (A.Staged.below s.first)) ws) };
 
     fn memories(&self) -> usize {
         self.first()
@@ -147,14 +142,12 @@ impl<A: Staged, B: Staged> Staged for Pair<A, B> {
 
     fn note_stores(&self, out: &mut Vec<usize>) -> Result<(), StageFault> {
         self.first().note_stores(out)?;
-        self.second().note_stores(out)?;
-        Ok(())
+        self.second().note_stores(out)
     }
 
     fn copy_images(&self, heap: Global, out: &mut Vec<Vec<u32>>) -> Result<(), StageFault> {
         self.first().copy_images(heap, out)?;
-        self.second().copy_images(heap, out)?;
-        Ok(())
+        self.second().copy_images(heap, out)
     }
 
     fn remounted(&self, heap: Global, counts: &[usize]) -> Result<Pair<A, B>, StageFault> {
@@ -192,9 +185,9 @@ impl<A: Staged, B: Staged> Staged for Pair<A, B> {
 }
 
 impl<A: Staged, B: Staged> Staged for Either<A, B> {
-    ghost below = { of_inside A.Staged.below B.Staged.below };
+    ghost below = { either A.Staged.below B.Staged.below };
 
-    ghost finds = { of_inside A.Staged.finds B.Staged.finds };
+    ghost finds = { either A.Staged.finds B.Staged.finds };
 
     fn memories(&self) -> usize {
         match self {

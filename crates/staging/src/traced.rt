@@ -23,7 +23,8 @@ pub struct Note {
 pub struct Traced {
     words: Vec<u32>,
     notes: Vec<Note>,
-    // A note found no memory: the stores before it cannot be undone any more.
+    // A note found no memory: the stores before it cannot be undone any more. The notes that are there still count as
+    // stores, so this is no `Option` of them.
     lost: bool,
 }
 
@@ -69,12 +70,10 @@ impl Traced {
             return Err(StageFault::Memory);
         }
         let mut words = Vec::from_slice(heap, self.words.as_slice())?;
-        let mut left = self.notes.len();
-        while left > stores {
-            left -= 1;
-            let note = self.notes[left];
-            if note.place < words.len() {
-                words[note.place] = note.before;
+        let undone = &self.notes[stores.min(self.notes.len())..];
+        for note in undone.iter().rev() {
+            if let Some(word) = words.get_mut(note.place) {
+                *word = note.before;
             }
         }
         Ok(words)
@@ -104,18 +103,14 @@ impl Memory for Traced {
     }
 
     fn load(&self, place: usize) -> u32 {
-        if place < self.words.len() {
-            self.words[place]
-        } else {
-            u32::MAX
-        }
+        self.words.get(place).copied().unwrap_or(u32::MAX)
     }
 
     fn store(&mut self, place: usize, word: u32) {
         let before = self.load(place);
         self.note(place, before);
-        if place < self.words.len() {
-            self.words[place] = word;
+        if let Some(held) = self.words.get_mut(place) {
+            *held = word;
         }
     }
 }

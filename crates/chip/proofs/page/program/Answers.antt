@@ -7,21 +7,11 @@ pub loop-i-preserved : goal.loop-i-preserved
 loop-i-preserved g c =
     let held = g.M.Memory.holds c.args.memory.now in
     let at = c.args.at in
-    let page = c.args.page.now in
+    let words = c.args.words.now in
     let i = c.loop-i.i in
-    let within : i < length page = omega arith in
-    let here : g.M.Memory.holds c.store.new.self ≡ set (written held at (take i page)) (at + i) (get_or page i 0) =
-    c.store.ensures.held ∙ ap (λ h. set h (at + i) (get_or page i 0)) c.loop-i.invariant.0 in
+    let within : i < length words = omega arith in
+    let here : g.M.Memory.holds c.store.new.self ≡ set (written held at (take i words)) (at + i) (get_or words i 0) =
+    c.store.ensures.held ∙ ap (λ h. set h (at + i) (get_or words i 0)) c.loop-i.invariant.0 in
     let joined = g.met.M.Memory.joins _ _ _ _ _ c.loop-i.invariant.1 c.store.ensures.moment in
-    let moments = ap (λ h. writes held at (take i page) ++ (h ∷ [])) here ∙ sym (writes_more held at page i within) in
-    (here ∙ sym (written_more held at page i within), subst (λ ms. g.M.Memory.through c.args.memory.now ms c.store.new.self) moments joined)
-
-pub returns : goal.returns
-returns g c =
-    let page = c.args.page.now in
-    let held = g.M.Memory.holds c.args.memory.now in
-    let all : take c.loop-i.i page ≡ take c.args.count page = ap (λ n. take n page) (omega arith) in
-    record {
-      memory = c.loop-i.invariant.0 ∙ ap (written held c.args.at) all;
-      moments = subst (λ ws. g.M.Memory.through c.args.memory.now (writes held c.args.at ws) c.loop-i.memory) all c.loop-i.invariant.1;
-    }
+    let moments = ap (λ h. writes held at (take i words) ++ (h ∷ [])) here ∙ sym (writes_more held at words i within) in
+    (here ∙ sym (written_more held at words i within), subst (λ ms. g.M.Memory.through c.args.memory.now ms c.store.new.self) moments joined)

@@ -1,90 +1,49 @@
-use Rattle.std.proofs.Common.{◌≡◌, ◌+◌, ◌<◌, ◌≤◌, min, true, false, [], ◌∷◌, ◌++◌, map, length, take, set, sym, refl, ap, ◌∙◌, subst, arith}
-use Rattle.std.proofs.lemmas.List.{append-nil}
+use Rattle.std.proofs.Common.{◌≡◌, ◌+◌, ◌<◌, true, map, length, sym, refl, ap, ◌∙◌, subst, arith, rules}
 use Rattle.std.proofs.lemmas.Bool.{both_ways}
-use Rattle.chip.specs.Cut.{Gapless}
-use Rattle.chip.specs.Page.{page_room, page_words, page_found, none_blank, PageIntact, written, writes}
-use Rattle.chip.proofs.CallLaws.{full_answer, full_leaves, taken_answer, taken_leaves}
-use Rattle.chip.specs.Writing.{length_written}
-use Rattle.chip.specs.PageLaws.{length_words, intact_words, collected_words, collected_intact, early_waits, early_programs, filled_long, filled_unblank, filled_words, programmed_found, programmed_intact, programmed_sound, programmed_gapless, programmed_kept}
+use Rattle.chip.specs.Page.{page_words, page_found, PageIntact, writes}
+use Rattle.chip.proofs.CallLaws.{taken_answer, taken_leaves}
+use Rattle.chip.specs.PageLaws.{length_words, collected_words, collected_intact, early_programs, page_filled}
 use Rattle.chip.proofs.page.PageChipChip.append.Goals as goal
 
-pub returns-then-self-room : goal.returns-then-self-room
-returns-then-self-room g c =
+pub invariant_of-self-else-is_full : goal.invariant_of-self-else-is_full
+invariant_of-self-else-is_full g c =
     let s = c.args.self.now in
     let ws = g.M.Memory.holds s.memory in
-    let words = page_words ws s.programmed s.page s.waiting in
-    let within : s.waiting ≤ length s.page = omega (arith, s.few, s.whole) in
-    let full : page_room ws ≤ length words = omega (arith, length_words ws s.programmed s.page s.waiting within, c.room.ensures, c.if-self-room.true) in
-    record {
-      answer = sym (full_answer (page_room ws) words c.args.word c.if-word-eq-BLANK.false full);
-      words = sym (full_leaves (page_room ws) words c.args.word full);
-      same_room = refl;
-      free_settled = omega arith;
-      settles_early = λ e. absurd (both_ways false refl e);
-      refusal_changes_nothing = λ _. refl;
-      cut_inside = λ intact. (intact, ([], ([], g.met.M.Memory.rests s.memory, tt, refl, refl), tt));
-    }
+    let room : s.programmed + length s.waiting.items < length ws = omega (arith, c.count.ensures, c.capacity.ensures, c.if-count-capacity.false, length_words ws s.programmed s.waiting.items s.intact) in
+    let few : length s.waiting.items + 1 < 16 = search (rules, arith, c.push.ensures.len, s.intact.few) in
+    record { intact = subst (PageIntact ws s.programmed) (sym c.push.ensures.items) (collected_intact ws s.programmed s.waiting.items s.intact c.args.word c.if-word-eq-BLANK.false room few) }
 
-pub returns-then-self-lt15 : goal.returns-then-self-lt15
-returns-then-self-lt15 g c =
+pub invariant_of-self : goal.invariant_of-self
+invariant_of-self g c =
     let s = c.args.self.now in
     let ws = g.M.Memory.holds s.memory in
-    let words = page_words ws s.programmed s.page s.waiting in
-    let within : s.waiting ≤ length s.page = omega (arith, s.few, s.whole) in
-    let word = c.if-word-eq-BLANK.false in
-    let room : s.programmed + s.waiting < page_room ws = omega (arith, c.room.ensures, c.if-self-room.false) in
-    let space : length words < page_room ws = omega (arith, length_words ws s.programmed s.page s.waiting within) in
-    let inside : s.waiting < length s.page = omega (arith, s.few, s.whole) in
-    record {
-      answer = sym (taken_answer (page_room ws) words c.args.word word space);
-      words = collected_words ws s.programmed s.page s.waiting c.args.word inside room ∙ sym (taken_leaves (page_room ws) words c.args.word word space);
-      same_room = refl;
-      free_settled = omega arith;
-      settles_early = λ _. sym (early_waits ws s.programmed s.waiting c.if-self-lt15.true);
-      refusal_changes_nothing = λ e. absurd (both_ways true e refl);
-      cut_inside = λ intact. (collected_intact ws s.programmed s.page s.waiting c.args.word inside room word intact, ([], ([], g.met.M.Memory.rests s.memory, tt, refl, refl), tt));
-    }
+    let room : s.programmed + length s.waiting.items < length ws = omega (arith, c.count.ensures, c.capacity.ensures, c.if-count-capacity.false, length_words ws s.programmed s.waiting.items s.intact) in
+    let full : length c.push.new.self.items ≡ 16 = search (rules, arith) in
+    let long : length c.deref.result.now ≡ 16 = ap length c.deref.ensures.0 ∙ full in
+    let filled = page_filled ws s.programmed s.waiting.items s.intact c.deref.result.now (g.M.Memory.holds c.program.new.memory) c.clear.new.self.items (s.programmed + 16) c.program.ensures.memory c.clear.ensures c.args.word c.if-word-eq-BLANK.false room (c.deref.ensures.0 ∙ c.push.ensures.items) long refl in
+    record { intact = filled.intact }
 
-pub returns-else-self-lt15 : goal.returns-else-self-lt15
-returns-else-self-lt15 g c =
+pub returns-then-is_full : goal.returns-then-is_full
+returns-then-is_full g c =
     let s = c.args.self.now in
     let ws = g.M.Memory.holds s.memory in
-    let n = s.programmed in
-    let words = page_words ws n s.page s.waiting in
-    let within : s.waiting ≤ length s.page = omega (arith, s.few, s.whole) in
+    let w = c.args.word in
+    let more = c.deref.result.now in
     let word = c.if-word-eq-BLANK.false in
-    let room : n + s.waiting < page_room ws = omega (arith, c.room.ensures, c.if-self-room.false) in
-    let space : length words < page_room ws = omega (arith, length_words ws n s.page s.waiting within) in
-    let last : s.waiting + 1 ≡ 16 = omega (arith, s.few, c.if-self-lt15.false) in
-    let page = set s.page s.waiting c.args.word in
-    let more = take 16 page in
-    let long : length more ≡ 16 = filled_long ws n s.page s.waiting c.args.word s.whole last room in
-    let held : g.M.Memory.holds c.program.new.memory ≡ written ws n more = c.program.ensures.memory in
-    let filled : page_words (g.M.Memory.holds c.program.new.memory) (n + 16) page 0 ≡ words ++ c.args.word ∷ [] = ap (λ h. page_words h (n + 16) page 0) held ∙ filled_words ws n s.page s.waiting c.args.word s.whole last room in
-    let same : page_room (g.M.Memory.holds c.program.new.memory) ≡ page_room ws = ap page_room held ∙ ap (min 1048576) (length_written ws n more) in
+    let intact = s.intact in
+    let room : s.programmed + length s.waiting.items < length ws = omega (arith, c.count.ensures, c.capacity.ensures, c.if-count-capacity.false, length_words ws s.programmed s.waiting.items intact) in
+    let space : length (page_words ws s.waiting.items) < length ws = omega (arith, length_words ws s.programmed s.waiting.items intact) in
+    let full : length c.push.new.self.items ≡ 16 = search (rules, arith) in
+    let long : length more ≡ 16 = ap length c.deref.ensures.0 ∙ full in
+    let same = c.deref.ensures.0 ∙ c.push.ensures.items in
+    let filled = page_filled ws s.programmed s.waiting.items intact more (g.M.Memory.holds c.program.new.memory) c.clear.new.self.items (s.programmed + 16) c.program.ensures.memory c.clear.ensures w word room same long refl in
+    let one_more = filled.words ∙ ap (page_words ws) same ∙ collected_words ws s.programmed s.waiting.items intact w word room in
     record {
-      answer = sym (taken_answer (page_room ws) words c.args.word word space);
-      words = filled ∙ sym (taken_leaves (page_room ws) words c.args.word word space);
-      same_room = same;
-      free_settled = omega (arith, same);
-      settles_early = λ _. ap (min (n + 16)) same ∙ sym (early_programs ws n s.waiting c.if-self-lt15.false);
+      answer = sym (taken_answer (length ws) (page_words ws s.waiting.items) w word space);
+      words = one_more ∙ sym (taken_leaves (length ws) (page_words ws s.waiting.items) w word space);
+      same_room = filled.same_room;
+      free_settled = omega arith;
+      settles_early = λ _. sym (early_programs s.programmed s.waiting.items (omega (arith, c.push.ensures.len)));
       refusal_changes_nothing = λ e. absurd (both_ways true e refl);
-      cut_inside = λ intact.
-          let fits : n + length more ≤ length ws = omega (arith, intact.fits) in
-          let unblank : none_blank more ≡ true = filled_unblank ws n s.page s.waiting c.args.word s.whole last room word intact.unblank in
-          let after : PageIntact (written ws n more) (n + 16) page 0 = programmed_intact ws n more intact.sound intact.counted fits unblank page (n + 16) (ap (λ l. n + l) (sym long)) in
-          let whole : page_words (g.M.Memory.holds c.program.new.memory) (n + 16) page 0 ≡ page_found ws ++ more = ap (λ h. page_words h (n + 16) page 0) held ∙ intact_words (written ws n more) (n + 16) page 0 after ∙ append-nil (page_found (written ws n more)) ∙ programmed_found ws n more intact.sound intact.counted fits unblank in (
-            subst (λ h. PageIntact h (n + 16) page 0) (sym held) after,
-            (
-              map page_found (writes ws n more),
-              (
-                writes ws n more,
-                c.program.ensures.moments,
-                programmed_sound ws n more intact.sound intact.counted fits unblank,
-                refl,
-                subst (λ h. Gapless (page_found ws) (map page_found (writes ws n more)) (page_found h)) (sym held) (programmed_gapless ws n more intact.sound intact.counted fits unblank),
-              ),
-              programmed_kept ws n more intact.sound intact.counted fits unblank (page_words (g.M.Memory.holds c.program.new.memory) (n + 16) page 0) (min n (page_room ws)) whole (omega arith),
-            ),
-          );
+      cut_inside = (map page_found (writes ws s.programmed more), (writes ws s.programmed more, c.program.ensures.moments, filled.sound, refl, filled.gapless), filled.kept _ filled.words);
     }

@@ -1,7 +1,5 @@
-use Rattle.std.proofs.Common.{◌≡◌, min, ◌++◌, length, take, drop, sym, ap, ◌∙◌, subst, arith}
-use Rattle.std.proofs.lemmas.List.{take_at, drop_at}
-use Rattle.pair.specs.Pair.{pair_words}
-use Rattle.pair.specs.PairLaws.{length_pair}
+use Rattle.std.proofs.Common.{◌≡◌, min, ◌++◌, length, take, drop, sym, ap, ◌∙◌, arith}
+use Rattle.std.proofs.lemmas.List.{take_at, drop_at, length-append}
 use Rattle.staging.specs.Below.{rewound_all}
 use Rattle.staging.proofs.BelowLaws.{rewound_apart, length_rewound, take_least, drop_least}
 use Rattle.staging.proofs.staged.PairStaged.remounted.Goals as goal
@@ -35,12 +33,11 @@ returns-in-Ok-new g c =
     let long : length wa ≡ n = length_rewound (S.below x) (take n counts) in
     let fa : take n ws ≡ wa = ap (take n) apart ∙ take_at wa wb n long in
     let fb : drop n ws ≡ wb = ap (drop n) apart ∙ drop_at wa wb n long in
-    let ea : A.accepted p.first ≡ S.finds x (take n ws) = made.first_settled.0 ∙ first.1 ∙ ap (λ z. S.finds z (rewound_all (S.below z) before)) c.first-2.ensures ∙ ap (λ k. S.finds x (rewound_all (S.below x) k)) front ∙ ap (S.finds x) (sym fa) in
-    let eb : B.accepted p.second ≡ U.finds y (drop n ws) = ap B.accepted made.same_second ∙ second.1 ∙ ap (λ z. U.finds z (rewound_all (U.below z) behind)) c.second.ensures ∙ ap (λ k. U.finds y (rewound_all (U.below y) k)) back ∙ ap (U.finds y) (sym fb) in
+    let ea : A.accepted p.first ≡ S.finds x (take n ws) = made.first_settled.0 ∙ first.0 ∙ ap (λ z. S.finds z (rewound_all (S.below z) before)) c.first-2.ensures ∙ ap (λ k. S.finds x (rewound_all (S.below x) k)) front ∙ ap (S.finds x) (sym fa) in
+    let eb : B.accepted p.second ≡ U.finds y (drop n ws) = ap B.accepted made.same_second ∙ second.0 ∙ ap (λ z. U.finds z (rewound_all (U.below z) behind)) c.second.ensures ∙ ap (λ k. U.finds y (rewound_all (U.below y) k)) back ∙ ap (U.finds y) (sym fb) in
     let na : length (A.accepted p.first) ≡ length (A.accepted f) = ap length made.first_settled.0 in
     let nb : length (B.accepted p.second) ≡ length (B.accepted h) = ap (λ z. length (B.accepted z)) made.same_second in
-    let sb : B.settled p.second ≡ length (B.accepted h) = ap B.settled made.same_second ∙ second.2 in (
-      ((made.cut_inside first.0).0, subst B.intact (sym made.same_second) second.0, made.made.ordered),
-      ap (λ l. pair_words l (B.accepted p.second)) ea ∙ ap (pair_words (S.finds x (take n ws))) eb,
-      omega (arith, length_pair (A.accepted p.first) (B.accepted p.second), made.first_settled.1, na, nb, sb),
+    let sb : B.settled p.second ≡ length (B.accepted h) = ap B.settled made.same_second ∙ second.1 in (
+      ap (λ l. l ++ B.accepted p.second) ea ∙ ap (λ l. S.finds x (take n ws) ++ l) eb,
+      omega (arith, length-append (A.accepted p.first) (B.accepted p.second), made.first_settled.1, na, nb, sb),
     )
