@@ -20,7 +20,7 @@ pub enum Answer {
 // Why a call does nothing; the script goes on.
 #[derive(Clone, Copy, Debug, Error)]
 pub enum Denial {
-    #[error("refused {number}: {words}", number = .0.number(), words = meaning(*.0))]
+    #[error("refused {number}: {refusal}", number = u8::from(*.0), refusal = .0)]
     Refused(#[from] Refusal),
     #[error("not written: {0}")]
     NotWritten(#[from] Unwritable),
@@ -33,17 +33,6 @@ pub type Outcome = Result<Answer, Denial>;
 pub struct Reply {
     pub call: String,
     pub answer: Outcome,
-}
-
-pub fn meaning(refusal: Refusal) -> &'static str {
-    match refusal {
-        Refusal::UnfitMemory => "the memory is not one that such a chip leaves",
-        Refusal::PairTooLarge => "the two capacities are more than 1048576 together",
-        Refusal::FirstNotFull => "the second chip has words and the first has room",
-        Refusal::BlankWord => "the blank word cannot be appended",
-        Refusal::ChipFull => "the chip is full",
-        Refusal::NoSuchWord => "no word stands at that place",
-    }
 }
 
 fn show_words<W: fmt::Write>(words: &[u32], f: &mut fmt::Formatter<W>) -> fmt::Result {

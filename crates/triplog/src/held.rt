@@ -5,8 +5,8 @@ use crate::script::{Call, Kind};
 use chip::chip::Chip;
 use chip::count::CountChip;
 use chip::page::PageChip;
-use chip::refusal::{Refusal, Unmounted};
-use pair::either::Either;
+use chip::refusal::Unmounted;
+use either::Either;
 use pair::pair::{Pair, Unpaired};
 use staging::fault::StageFault;
 use staging::staged::Staged;
@@ -51,20 +51,17 @@ impl<C: Joins> Joins for OneOrTwo<C> {
         second: OneOrTwo<C>,
     ) -> Result<OneOrTwo<OneOrTwo<C>>, Unpaired<OneOrTwo<C>, OneOrTwo<C>>> {
         match (first, second) {
-            (Either::Left(first), Either::Left(second)) => match C::join(first, second) {
-                Ok(chip) => Ok(Either::Left(chip)),
-                Err(
-                    Unpaired {
-                        first,
-                        second,
-                        refusal,
-                    },
-                ) => Err(Unpaired {
+            (Either::Left(first), Either::Left(second)) => C::join(first, second)
+                .map(Either::Left)
+                .map_err(|Unpaired {
+                    first,
+                    second,
+                    refusal,
+                }| Unpaired {
                     first: Either::Left(first),
                     second: Either::Left(second),
                     refusal,
                 }),
-            },
             (first, second) => joined(first, second),
         }
     }
@@ -98,10 +95,8 @@ impl<C: Joins> Held<C> {
     }
 
     pub fn mounted(heap: Global, kind: Kind, memory: Traced) -> Result<Held<C>, StageFault> {
-        match C::mount(kind, memory) {
-            Ok(chip) => Ok(Held::boxed(heap, Either::Left(chip))?),
-            Err(Unmounted { memory: _, refusal }) => Err(StageFault::Refused(refusal)),
-        }
+        let chip = C::mount(kind, memory)?;
+        Ok(Held::boxed(heap, Either::Left(chip))?)
     }
 
     // Two chips that are refused as a pair stay as they were.
@@ -195,15 +190,9 @@ impl<C: Joins> Held<C> {
         Ok(Held::boxed(heap, self.chip.remounted(heap, counts)?)?)
     }
 
-    // The power goes and comes back. What this program changes by calls alone is never refused.
-    pub fn cut(self, heap: Global) -> Result<Held<C>, StageFault> {
+    // The power goes and comes back. No chip is refused then.
+    pub fn cut(self, heap: Global) -> Result<Held<C>, AllocError> {
         let Held { chip } = self;
-        match Box::into_inner(chip).cut() {
-            Ok(chip) => Ok(Held::boxed(heap, chip)?),
-            Err(chip) => {
-                chip.discard();
-                Err(StageFault::Refused(Refusal::UnfitMemory))
-            }
-        }
+        Held::boxed(heap, Box::into_inner(chip).cut().unwrap())
     }
 }
