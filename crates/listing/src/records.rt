@@ -1,5 +1,5 @@
 // The records of a log, one behind the other.
-ghost use Rattle.std.specs.Prelude.{◌≡◌, [], IfOk, MatchResult};
+ghost use Rattle.std.specs.Prelude.{◌≡◌, ◌<◌, [], IfOk, MatchResult};
 ghost use Rattle.listing.specs.declared.records.Ending.TheVariants.{Damaged};
 ghost use Rattle.listing.specs.Listings.{Listed, Stands};
 
@@ -58,7 +58,8 @@ pub struct Listing {
 impl Reading {
     // The record that starts at a place, or why none does.
     fn record_at(self, start: usize, words: &[u32]) -> Result<Record, Ending>
-        ensures { MatchResult result (Stands self words.now start) (Listed self words.now start []) }
+        ensures stands { MatchResult result (Stands self words.now start) (Listed self words.now start []) }
+        ensures behind { IfOk result (λ r. start < r.end) }
     {
         if start >= words.len() {
             return Err(Ending::AllRead);
@@ -81,6 +82,7 @@ impl Listing {
         ensures { IfOk result (λ l. Listed reading words.now 0 l.records.items l.ending) }
     {
         let mut records = Vec::new(heap);
+        // No range and no chain: where the next record starts is known only once this one is read.
         let mut start = 0;
         loop {
             match reading.record_at(start, words) {
