@@ -5,36 +5,18 @@
 --   after f t x        a cell's value after the effect, from the values of the sender's cell, of a, of b, and of the cell
 --   commands_lawful    the laws that every kind of work has to keep
 --   once_only          a number that is not above its sender's changes nothing, so a command that was run never acts again
-use Rattle.std.specs.Prelude.{◌≡◌, ℕ, suc, ◌+◌, ◌<◌, ◌≤◌, min, Bool, true, false, cond, not, ◌&&◌, ◌≢◌, ◌⊎◌, List, [], ◌∷◌, length, Ok, ◌==◌, nat_le, nat_lt, slice_index, slice_index_or, slice_set, refl}
+use Rattle.std.specs.Prelude.{◌≡◌, ℕ, suc, ◌+◌, ◌<◌, ◌≤◌, min, Bool, true, false, cond, ◌&&◌, ◌≢◌, ◌⊎◌, List, [], ◌∷◌, length, Ok, ◌==◌, nat_le, nat_lt, slice_index, slice_index_or, slice_set, refl}
 use Rattle.std.proofs.Common.{inl, inr, sym, ap, subst, ◌∙◌, arith}
 use Rattle.std.specs.List.{AllByRecursion}
 use Rattle.std.proofs.ByRecursion.{All-weaker}
-use Rattle.std.proofs.lemmas.List.{length-set, get_or-set_same, get_or-set_other}
-use Rattle.std.proofs.lemmas.Bool.{and_parts, and_from, not-true, ltb-true, ltb-false, lt-ltb, le-ltb, eqb-true, eqb-false, or_parts, cond_both, cond-false}
+use Rattle.std.proofs.lemmas.Bool.{or_parts, cond_both}
 use Rattle.std.proofs.lemmas.Bool.Decides.{nat_tests}
+use Rattle.std.proofs.lemmas.Grind.{common_steps}
 use Rattle.work.specs.declared.name.Name.{Name}
-use Rattle.work.specs.KindLaws.{ok_then, payloads_below}
-use Rattle.work.specs.Kinds.{Lawful, Alike, WithinTop, top, fit_payloads, rising, rising_from, within, written, writing, reading}
+use Rattle.work.specs.KindLaws.{payloads_below}
+use Rattle.work.specs.Kinds.{Lawful, Alike, WithinTop, top, rising, rising_from, within, written, writing, reading}
 use Rattle.commands.specs.declared.commands.Command.{Command}
-use Rattle.commands.specs.Commands.{fields, by_operation, is_operation, unused_are_zero, usable, cells_there, cells_apart, placed, command_names, acted, above_latest, command_effect, command_judged, commands, run_each, OnceOnly}
-
--- the questions that matter here, once all are passed
-record Passed (body : List ℕ) (cells : ℕ) : Type 0 where
-  all_payloads_fit : (length body == 3 && fit_payloads body) ≡ true
-  operation_known : is_operation (fields body) ≡ true
-  all_cells_there : cells_there cells (fields body) ≡ true
-  cells_are_apart : cells_apart (fields body) ≡ true
-
-judged_passed : (body : List ℕ) (cells : ℕ) → command_judged body cells ≡ Ok tt → Passed body cells
-judged_passed body cells h =
-    let f = fields body in
-    let fit = ok_then (length body == 3 && fit_payloads body) _ _ h in
-    let known = ok_then (is_operation f) _ _ fit.1 in
-    let numbered = ok_then (not (f.number == 0)) _ _ known.1 in
-    let unused = ok_then (unused_are_zero f) _ _ numbered.1 in
-    let there = ok_then (cells_there cells f) _ _ unused.1 in
-    let apart = ok_then (cells_apart f) _ _ there.1 in
-    record { all_payloads_fit = fit.0; operation_known = known.0; all_cells_there = there.0; cells_are_apart = apart.0 }
+use Rattle.commands.specs.Commands.{fields, by_operation, is_operation, usable, cells_there, cells_apart, placed, command_names, acted, above_latest, command_effect, command_judged, commands, run_each, OnceOnly}
 
 record Sound (cells : ℕ) (f : Command) : Type 0 where
   sender_is_one : f.sender < 8
@@ -45,17 +27,16 @@ record Sound (cells : ℕ) (f : Command) : Type 0 where
 
 judged_fits : (body : List ℕ) (cells : ℕ) → command_judged body cells ≡ Ok tt → AllByRecursion (λ p. p ≤ top) body
 judged_fits body cells h =
-    payloads_below body (and_parts (length body == 3) (fit_payloads body) (judged_passed body cells h).all_payloads_fit).1
+    payloads_below body (grind arith)
 
 judged_sound : (body : List ℕ) (cells : ℕ) → command_judged body cells ≡ Ok tt → Sound cells (fields body)
 judged_sound body cells h =
-    let p = judged_passed body cells h in
     record {
       sender_is_one = omega arith;
       number_fits = omega arith;
-      operation_known = p.operation_known;
-      all_cells_there = p.all_cells_there;
-      cells_are_apart = p.cells_are_apart;
+      operation_known = grind arith;
+      all_cells_there = grind arith;
+      cells_are_apart = grind arith;
     }
 
 -- what is known of the cells of each operation
@@ -78,54 +59,49 @@ record Latching (cells : ℕ) (f : Command) : Type 0 where
 
 used_from : (cells x : ℕ) → usable cells x ≡ true → Used cells x
 used_from cells x h =
-    let both = and_parts (nat_lt 7 x) (nat_lt x cells) h in
-    record { above_senders = ltb-true 7 x both.0; in_table = ltb-true x cells both.1 }
-
-differ : (x y : ℕ) → not (x == y) ≡ true → x ≢ y
-differ x y h = eqb-false x y (not-true (x == y) h)
+    record { above_senders = grind (arith, nat_tests); in_table = grind (arith, nat_tests) }
 
 abbrev with_operation : ℕ → Command → Command
 with_operation k f =
     record { operation = k; sender = f.sender; number = f.number; a = f.a; b = f.b; c = f.c; spare = f.spare; amount = f.amount }
 
-closing_from : (cells : ℕ) (f : Command) → cells_there cells (with_operation 2 f) ≡ true → cells_apart (with_operation 2 f) ≡ true → Closing cells f
-closing_from cells f h d =
-    let u = and_parts (usable cells f.a) (usable cells f.b) h in
-    record { a_used = used_from cells f.a u.0; b_used = used_from cells f.b u.1; a_not_b = differ f.a f.b d }
+adding_from : (cells : ℕ) (f : Command) → Sound cells f → f.operation ≡ 1 → Used cells f.a
+adding_from cells f h e = let there = h.all_cells_there in used_from cells f.a (grind (arith, nat_tests))
 
-latching_from : (cells : ℕ) (f : Command) → cells_there cells (with_operation 3 f) ≡ true → cells_apart (with_operation 3 f) ≡ true → Latching cells f
-latching_from cells f h d =
-    let a = f.a in
-    let b = f.b in
-    let c = f.c in
-    let u = and_parts (usable cells a) (usable cells b && usable cells c) h in
-    let v = and_parts (usable cells b) (usable cells c) u.1 in
-    let p = and_parts (not (a == b)) (not (a == c) && not (b == c)) d in
-    let q = and_parts (not (a == c)) (not (b == c)) p.1 in
+closing_from : (cells : ℕ) (f : Command) → Sound cells f → f.operation ≡ 2 → Closing cells f
+closing_from cells f h e =
+    let there = h.all_cells_there in
+    let apart = h.cells_are_apart in
     record {
-      a_used = used_from cells a u.0;
-      b_used = used_from cells b v.0;
-      c_used = used_from cells c v.1;
-      a_not_b = differ a b p.0;
-      a_not_c = differ a c q.0;
-      b_not_c = differ b c q.1;
+      a_used = used_from cells f.a (grind (arith, nat_tests));
+      b_used = used_from cells f.b (grind (arith, nat_tests));
+      a_not_b = grind (arith, nat_tests);
+    }
+
+latching_from : (cells : ℕ) (f : Command) → Sound cells f → f.operation ≡ 3 → Latching cells f
+latching_from cells f h e =
+    let there = h.all_cells_there in
+    let apart = h.cells_are_apart in
+    record {
+      a_used = used_from cells f.a (grind (arith, nat_tests));
+      b_used = used_from cells f.b (grind (arith, nat_tests));
+      c_used = used_from cells f.c (grind (arith, nat_tests));
+      a_not_b = grind (arith, nat_tests);
+      a_not_c = grind (arith, nat_tests);
+      b_not_c = grind (arith, nat_tests);
     }
 
 -- at a known operation all that goes by the operation computes
 by_each : (P : Command → Type 0) (cells : ℕ) (f : Command) → Sound cells f → (Used cells f.a → P (with_operation 1 f)) → (Closing cells f → P (with_operation 2 f)) → (Latching cells f → P (with_operation 3 f)) → P f
 by_each P cells f h add close latch =
     let one : ((f.operation ≡ 1) ⊎ (f.operation ≡ 2)) ⊎ (f.operation ≡ 3) = grind (arith, nat_tests, h.operation_known) in
-    let There : ℕ → Type 0 = λ k. cells_there cells (with_operation k f) ≡ true in
-    let Apart : ℕ → Type 0 = λ k. cells_apart (with_operation k f) ≡ true in
-    let there : (k : ℕ) → f.operation ≡ k → There k = λ k e. subst There e h.all_cells_there in
-    let apart : (k : ℕ) → f.operation ≡ k → Apart k = λ k e. subst Apart e h.cells_are_apart in
     let back : (k : ℕ) → f.operation ≡ k → P (with_operation k f) → P f = λ k e p. subst (λ n. P (with_operation n f)) (sym e) p in
     elim one [
       | inl e ↦ elim e [
-        | inl e ↦ back 1 e (add (used_from cells f.a (and_parts (usable cells f.a) true (there 1 e)).0))
-        | inr e ↦ back 2 e (close (closing_from cells f (there 2 e) (apart 2 e)))
+        | inl e ↦ back 1 e (add (adding_from cells f h e))
+        | inr e ↦ back 2 e (close (closing_from cells f h e))
       ]
-      | inr e ↦ back 3 e (latch (latching_from cells f (there 3 e) (apart 3 e)))
+      | inr e ↦ back 3 e (latch (latching_from cells f h e))
     ]
 
 -- names that are put into their places
@@ -142,9 +118,7 @@ placed_all P n (m ∷ ms) h =
 
 length_placed : (n : Name) (ms : List Name) → length (placed n ms) ≡ suc (length ms)
 length_placed n [] = refl
-length_placed n (m ∷ ms) =
-    cond_both (nat_lt n.cell m.cell) (n ∷ m ∷ ms) (m ∷ placed n ms) (λ l. length l ≡ suc (length (m ∷ ms)))
-    (λ _. refl) (λ _. ap suc (length_placed n ms))
+length_placed n (m ∷ ms) = let rest = length_placed n ms in grind (arith, common_steps)
 
 abbrev close_names : Command → List Name
 close_names f = placed (writing f.a) (writing f.b ∷ [])
@@ -173,14 +147,12 @@ latch_all P f h =
 rising_placed : (low : ℕ) (n : Name) (ms : List Name) → low ≤ n.cell → rising_from low ms ≡ true → AllByRecursion (λ m. n.cell ≢ m.cell) ms → rising_from low (placed n ms) ≡ true
 rising_placed low n [] l r d = grind (arith, nat_tests)
 rising_placed low n (m ∷ ms) l r d =
-    let p = and_parts (nat_lt low (suc m.cell)) (rising_from (suc m.cell) ms) r in
-    cond_both (nat_lt n.cell m.cell) (n ∷ m ∷ ms) (m ∷ placed n ms) (λ l. rising_from low l ≡ true)
-    (λ e. and_from _ _ (lt-ltb low (suc n.cell) (omega arith)) (and_from _ _ (lt-ltb (suc n.cell) (suc m.cell) (omega (arith, ltb-true n.cell m.cell e))) p.1))
-    (λ e. and_from _ _ p.0 (rising_placed (suc m.cell) n ms (omega (arith, ltb-false n.cell m.cell e, d.0)) p.1 d.1))
+    let rest = rising_placed (suc m.cell) n ms in
+    grind (arith, nat_tests)
 
 within_all : (cells : ℕ) (ns : List Name) → AllByRecursion (λ n. n.cell < cells) ns → within cells ns ≡ true
 within_all cells [] h = refl
-within_all cells (n ∷ ns) h = and_from _ _ (lt-ltb n.cell cells h.0) (within_all cells ns h.1)
+within_all cells (n ∷ ns) h = let rest = within_all cells ns h.1 in grind (arith, nat_tests)
 
 unwritten : (ns : List Name) (x : ℕ) → written ns x ≡ false → AllByRecursion (λ n. n.writes ≡ true → x ≢ n.cell) ns
 unwritten [] x h = tt
@@ -189,15 +161,8 @@ unwritten (n ∷ ns) x h =
     (λ w e. grind (arith, nat_tests), unwritten ns x p.1)
 
 -- the table after the effect
-get_or_set_at : (t : List ℕ) (i v x : ℕ) → i < length t → slice_index (slice_set t i v) x ≡ cond (x == i) v (slice_index t x)
-get_or_set_at t i v x l =
-    cond_both (x == i) v (slice_index t x) (λ w. slice_index (slice_set t i v) x ≡ w)
-    (λ e. rw (eqb-true x i e) (get_or-set_same t i v 0 l))
-    (λ e. get_or-set_other t i x v 0 (eqb-false x i e))
-
 get_or_cond : (b : Bool) (t u : List ℕ) (x : ℕ) → slice_index (cond b t u) x ≡ cond b (slice_index t x) (slice_index u x)
-get_or_cond true t u x = refl
-get_or_cond false t u x = refl
+get_or_cond b t u x = grind arith
 
 abbrev after_acting : Command → List ℕ → ℕ → ℕ
 after_acting f t x =
@@ -210,22 +175,12 @@ after_acting f t x =
 abbrev after : Command → List ℕ → ℕ → ℕ
 after f t x = cond (above_latest f t) (after_acting f t x) (slice_index t x)
 
-close_at : (f : Command) (t : List ℕ) → f.sender < 8 → Closing (length t) f → (x : ℕ) → let g = with_operation 2 f in slice_index (acted g (slice_set t g.sender g.number)) x ≡ after_acting g t x
-close_at f t s h x =
-    let sl : f.sender < length t = omega arith in
-    let moved : slice_index_or (slice_set t f.sender f.number) f.a 0 ≡ slice_index_or t f.a 0 = get_or-set_other t f.sender f.a f.number 0 (omega arith) in
-    let bl : f.b < length (slice_set t f.sender f.number) = simp length-set h.b_used.in_table in
-    let al : f.a < length (slice_set (slice_set t f.sender f.number) f.b (slice_index t f.a)) = simp length-set h.a_used.in_table in
-    simp (moved, get_or_set_at) (grind (arith, nat_tests))
-
 acted_at : (f : Command) (t : List ℕ) → Sound (length t) f → (x : ℕ) → slice_index (acted f (slice_set t f.sender f.number)) x ≡ after_acting f t x
 acted_at f t h x =
-    let kept : (y : ℕ) → Used (length t) y → y < length (slice_set t f.sender f.number) = λ y u. simp length-set u.in_table in
-    let there : (y : ℕ) → Used (length t) y → f.sender < length t = λ y u. omega arith in
     by_each (λ g. slice_index (acted g (slice_set t g.sender g.number)) x ≡ after_acting g t x) (length t) f h
-    (λ u. let s = there f.a u in let a = kept f.a u in simp get_or_set_at (grind (arith, nat_tests)))
-    (λ u. close_at f t h.sender_is_one u x)
-    (λ u. let s = there f.c u.c_used in let c = kept f.c u.c_used in simp (get_or_cond, get_or_set_at) (grind (arith, nat_tests)))
+    (λ u. grind (arith, nat_tests, common_steps))
+    (λ u. grind (arith, nat_tests, common_steps))
+    (λ u. grind (arith, nat_tests, common_steps))
 
 effect_at : (f : Command) (t : List ℕ) → Sound (length t) f → (x : ℕ) → slice_index (command_effect f t) x ≡ after f t x
 effect_at f t h x =
@@ -284,27 +239,17 @@ latch_rises low cells f l h =
 
 names_rise : (cells : ℕ) (f : Command) → Sound cells f → rising (command_names f) ≡ true
 names_rise cells f h =
-    let first = lt-ltb 0 (suc f.sender) (omega arith) in
     by_each (λ g. rising (command_names g) ≡ true) cells f h
-    (λ u. and_from _ _ first (grind (arith, nat_tests)))
-    (λ u. and_from _ _ first (close_rises (suc f.sender) cells f (omega arith) u))
-    (λ u. and_from _ _ first (latch_rises (suc f.sender) cells f (omega arith) u))
+    (λ u. grind (arith, nat_tests))
+    (λ u. let rest = close_rises (suc f.sender) cells f (omega arith) u in grind (arith, nat_tests))
+    (λ u. let rest = latch_rises (suc f.sender) cells f (omega arith) u in grind (arith, nat_tests))
 
 -- and what its effect keeps
-length_cond : (b : Bool) (t u : List ℕ) → length (cond b t u) ≡ cond b (length t) (length u)
-length_cond true t u = refl
-length_cond false t u = refl
-
-cond_same : (b : Bool) (n : ℕ) → cond b n n ≡ n
-cond_same true n = refl
-cond_same false n = refl
-
 effect_length : (f : Command) (t : List ℕ) → length (command_effect f t) ≡ length t
-effect_length f t = simp (length_cond, length-set, cond_same)
+effect_length f t = grind (arith, nat_tests, common_steps)
 
 old_number_stays : (f : Command) (t : List ℕ) → f.number ≤ slice_index t f.sender → command_effect f t ≡ t
-old_number_stays f t l =
-    cond-false (above_latest f t) (acted f (slice_set t f.sender f.number)) t (le-ltb (slice_index t f.sender) f.number l)
+old_number_stays f t l = grind (arith, nat_tests)
 
 -- the sender's cell has at least the number of a command that was run, and no later command takes that away
 number_reached : (f : Command) (t : List ℕ) → Sound (length t) f → f.number ≤ slice_index (command_effect f t) f.sender

@@ -1,5 +1,6 @@
 // Commands: a body is three payloads, an operation with its sender and number, cells, and an amount.
-ghost use Rattle.std.specs.Prelude.{◌≡◌, ◌<◌, length};
+ghost use Rattle.std.specs.Prelude.{◌≡◌, ◌<◌};
+ghost use Rattle.arrayvec.specs.ArrayVec.{array_vec_len};
 ghost use Rattle.commands.specs.Commands.{commands, fields, fit_fields, body_of, FieldsGivenBack, above_latest, command_effect, acted, unused_are_zero, usable, cells_there, cells_apart, placed, command_names, OnceOnly};
 ghost use Rattle.commands.specs.CommandLaws.{commands_lawful};
 
@@ -126,7 +127,7 @@ impl Command {
         }
     }
 
-    // The sender's cell is below every cell that an operation can use, so it comes first.
+    // The sender's cell is below every cell that an operation can use, so it comes first; at most three follow.
     fn names(self) -> ArrayVec<Name, 4>
         ensures { result.items ≡ command_names self }
     {
@@ -185,7 +186,7 @@ fn usable(cells: u32, cell: u32) -> bool
 
 // Puts a name into its place among rising ones.
 fn place(names: &mut ArrayVec<Name, 4>, name: Name)
-    requires { length names.old.items < 4 }
+    requires { array_vec_len names.old < 4 }
     ensures { names.new.items ≡ placed name names.old.items }
 {
     let place = names

@@ -82,6 +82,7 @@ impl Listing {
         ensures { IfOk result (λ l. Listed reading words.now 0 l.records.items l.ending) }
     {
         let mut records = Vec::new(heap);
+        // No range and no chain: where the next record starts is known only once this one is read.
         let mut start = 0;
         loop {
             match reading.record_at(start, words) {

@@ -185,6 +185,7 @@ fn read_record<W: Work>(work: &W, cells: u32, origin: Origin, words: &[u32]) -> 
 }
 
 // What a log has where a record should start: a record, none since the words run out, or a fault.
+// The kind of work and the number of cells come apart, as judge takes them: a struct of both would be taken apart at once.
 #[tactic(auto, using(crate::proofs::WrittenOnly::only_written))]
 pub fn read<W: Work>(
     work: &W,

@@ -2,12 +2,11 @@
 use chip::refusal::Refusal;
 use logs::writer::Unwritable;
 use std::fmt;
-use wording::show::InWords;
+use thiserror::Error;
 
 #[derive(Drop)]
 pub enum Answer {
     Done,
-    Refused(Refusal),
     // how many words are accepted, of how many there is room for
     Level(u32, u32),
     Word(u32),
@@ -16,59 +15,58 @@ pub enum Answer {
     Files(usize),
     NoChips,
     Text(String),
-    NotWritten(Unwritable),
 }
 
-// An answer, and the call that it is given to.
+// Why a call does nothing; the script goes on.
+#[derive(Clone, Copy, Debug, Error)]
+pub enum Denial {
+    #[error("refused {number}: {refusal}", number = u8::from(*.0), refusal = .0)]
+    Refused(#[from] Refusal),
+    #[error("not written: {0}")]
+    NotWritten(#[from] Unwritable),
+}
+
+pub type Outcome = Result<Answer, Denial>;
+
+// What is told of a call, and the call.
 #[derive(Drop)]
 pub struct Reply {
     pub call: String,
-    pub answer: Answer,
-}
-
-pub fn meaning(refusal: Refusal) -> &'static str {
-    match refusal {
-        Refusal::UnfitMemory => "the memory is not one that such a chip leaves",
-        Refusal::PairTooLarge => "the two capacities are more than 1048576 together",
-        Refusal::FirstNotFull => "the second chip has words and the first has room",
-        Refusal::BlankWord => "the blank word cannot be appended",
-        Refusal::ChipFull => "the chip is full",
-        Refusal::NoSuchWord => "no word stands at that place",
-    }
+    pub answer: Outcome,
 }
 
 fn show_words<W: fmt::Write>(words: &[u32], f: &mut fmt::Formatter<W>) -> fmt::Result {
-    if words.is_empty() {
-        return write!(f, " none");
-    }
-    for word in words {
+    let [first, rest @ ..] = words else {
+        return write!(f, "none");
+    };
+    write!(f, "{first:08x}")?;
+    for word in rest {
         write!(f, " {word:08x}")?;
     }
     Ok(())
 }
 
+impl fmt::Display for Answer {
+    fn fmt<W: fmt::Write>(&self, f: &mut fmt::Formatter<W>) -> fmt::Result {
+        match self {
+            Answer::Done => write!(f, "ok"),
+            Answer::Level(words, room) => write!(f, "{words} of {room} words"),
+            Answer::Word(word) => write!(f, "{word:08x}"),
+            Answer::Number(number) => write!(f, "{number}"),
+            Answer::Words(words) => show_words(words.as_slice(), f),
+            Answer::Files(files) => write!(f, "{files} written"),
+            Answer::NoChips => write!(f, "no chips"),
+            Answer::Text(text) => write!(f, "{text}"),
+        }
+    }
+}
+
 impl fmt::Display for Reply {
     fn fmt<W: fmt::Write>(&self, f: &mut fmt::Formatter<W>) -> fmt::Result {
         let call = &self.call;
-        write!(f, "{call}:")?;
         match &self.answer {
-            Answer::Done => write!(f, " ok"),
-            Answer::Refused(refusal) => {
-                let number = refusal.number();
-                let words = meaning(*refusal);
-                write!(f, " refused {number}: {words}")
-            }
-            Answer::Level(words, room) => write!(f, " {words} of {room} words"),
-            Answer::Word(word) => write!(f, " {word:08x}"),
-            Answer::Number(number) => write!(f, " {number}"),
-            Answer::Words(words) => show_words(words.as_slice(), f),
-            Answer::Files(files) => write!(f, " {files} written"),
-            Answer::NoChips => write!(f, " no chips"),
-            Answer::Text(text) => write!(f, " {text}"),
-            Answer::NotWritten(why) => {
-                let why = InWords(*why);
-                write!(f, " not written: {why}")
-            }
+            Ok(answer) => write!(f, "{call}: {answer}"),
+            Err(denial) => write!(f, "{call}: {denial}"),
         }
     }
 }

@@ -3,33 +3,29 @@ use crate::cause::Cause;
 use std::alloc::{AllocError, Global};
 use std::fs;
 
-// The words of bytes whose number is a multiple of four.
-pub fn words_of(heap: Global, bytes: &[u8]) -> Result<Vec<u32>, AllocError> {
-    let mut words = Vec::new(heap);
-    for four in bytes.chunks_exact(4) {
-        words.push(u32::from_le_bytes([four[0], four[1], four[2], four[3]]))?;
-    }
-    Ok(words)
-}
-
 pub fn bytes_of(heap: Global, words: &[u32]) -> Result<Vec<u8>, AllocError> {
-    let mut bytes = Vec::new(heap);
-    for word in words {
-        bytes.extend_from_slice(&word.to_le_bytes())?;
-    }
-    Ok(bytes)
+    words
+        .iter()
+        .flat_map(|word| word.to_le_bytes())
+        .collect(heap)
 }
 
 pub fn read(rt: &HostRuntime, file: &str) -> Result<Vec<u32>, Cause> {
     let heap = rt.alloc();
-    let bytes = match fs::read(rt, file) {
-        Ok(bytes) => bytes,
-        Err(error) => return Err(Cause::unread(heap, file, error)),
-    };
-    if bytes.len() % 4 != 0 {
+    let bytes = fs::read(rt, file).try_map_err(|error| Ok(Cause::Unread(
+        String::from_str(heap, file)?,
+        error,
+    )))?;
+    let (fours, rest) = bytes.as_chunks::<4>();
+    if !rest.is_empty() {
         return Err(Cause::Ragged(String::from_str(heap, file)?));
     }
-    Ok(words_of(heap, bytes.as_slice())?)
+    Ok(
+        fours
+            .iter()
+            .map(|four| u32::from_le_bytes(*four))
+            .collect(heap)?,
+    )
 }
 
 // Writes each image to the file of its place. All are written beside their files first, so that none is
@@ -48,17 +44,14 @@ fn write_part(rt: &HostRuntime, file: &str, image: &[u32]) -> Result<(), Cause> 
     let heap = rt.alloc();
     let part = format!(in heap; "{file}.part")?;
     let bytes = bytes_of(heap, image)?;
-    match fs::write(rt, part.as_str(), bytes.as_slice()) {
-        Ok(()) => Ok(()),
-        Err(error) => Err(Cause::unwritten(heap, part.as_str(), error)),
-    }
+    fs::write(rt, part.as_str(), bytes.as_slice()).map_err(|error| Cause::Unwritten(part, error))
 }
 
 fn put_in_place(rt: &HostRuntime, file: &str) -> Result<(), Cause> {
     let heap = rt.alloc();
     let part = format!(in heap; "{file}.part")?;
-    match fs::rename(rt, part.as_str(), file) {
-        Ok(()) => Ok(()),
-        Err(error) => Err(Cause::unwritten(heap, file, error)),
-    }
+    fs::rename(rt, part.as_str(), file).try_map_err(|error| Ok(Cause::Unwritten(
+        String::from_str(heap, file)?,
+        error,
+    )))
 }

@@ -21,66 +21,48 @@ fn run_line<C: Joins>(
     number: u64,
     line: &str,
 ) -> Result<(), Stop> {
-    match answer_line(rt, shelf, line) {
-        Ok(()) => Ok(()),
-        Err(cause) => Err(Stop::in_line(number, cause)),
-    }
+    answer_line(rt, shelf, line).map_err(|cause| Stop::InLine(number, cause))
 }
 
 fn answer_line<C: Joins>(rt: &HostRuntime, shelf: &mut Shelf<C>, line: &str) -> Result<(), Cause> {
     let Some(command) = script::parse(rt.alloc(), line)? else {
         return Ok(());
     };
-    let replies = shelf::run(rt, shelf, command)?;
-    for reply in replies.iter() {
-        if let Err(error) = println!(rt; "{reply}") {
-            return Err(Cause::Output(error));
-        }
+    for reply in shelf.run(rt, command)? {
+        println!(rt; "{reply}").map_err(Cause::Output)?;
     }
     Ok(())
 }
 
 fn run_file<C: Joins>(rt: &HostRuntime, shelf: &mut Shelf<C>, file: &str) -> Result<(), Stop> {
-    let text = match fs::read_to_string(rt, file) {
-        Ok(text) => text,
-        Err(error) => return Err(Stop::outside(Cause::unread(rt.alloc(), file, error))),
-    };
-    let mut number = 0u64;
-    for line in text.lines() {
-        number = number.saturating_add(1);
+    let text = fs::read_to_string(rt, file).try_map_err(|error| Ok(Cause::Unread(
+        String::from_str(rt.alloc(), file)?,
+        error,
+    )))?;
+    for (number, line) in (1u64..).zip(text.lines()) {
         run_line(rt, shelf, number, line)?;
     }
     Ok(())
 }
 
 fn run_input<C: Joins>(rt: &HostRuntime, shelf: &mut Shelf<C>) -> Result<(), Stop> {
-    let mut number = 0u64;
-    for line in rt.stdin().lines(rt.alloc()) {
-        number = number.saturating_add(1);
-        match line {
-            Ok(line) => run_line(rt, shelf, number, line.as_str())?,
-            Err(error) => return Err(Stop::in_line(number, Cause::Input(error))),
-        }
+    for (number, line) in (1u64..).zip(rt.stdin().lines(rt.alloc())) {
+        let line = line.map_err(|error| Stop::InLine(number, Cause::Input(error)))?;
+        run_line(rt, shelf, number, line.as_str())?;
     }
     Ok(())
 }
 
 fn run_script<C: Joins>(rt: &HostRuntime) -> Result<(), Stop> {
-    let mut args = match env::args(rt) {
-        Ok(args) => args.skip(1),
-        Err(error) => return Err(Stop::outside(Cause::Input(error))),
-    };
+    let mut args = env::args(rt).map_err(Cause::Input)?.skip(1);
+    let script = args.next();
+    if args.next().is_some() {
+        return Err(Stop::Outside(Cause::Shape("triplog [SCRIPT]")));
+    }
     let mut shelf: Shelf<C> = Shelf::new(rt.alloc());
-    match (args.next(), args.next()) {
-        (None, _) => run_input(rt, &mut shelf),
-        (Some(file), None) => {
-            if file.as_str() == "-" {
-                run_input(rt, &mut shelf)
-            } else {
-                run_file(rt, &mut shelf, file.as_str())
-            }
-        }
-        (Some(_), Some(_)) => Err(Stop::outside(Cause::Shape("triplog [SCRIPT]"))),
+    match script {
+        Some(file) if file.as_str() != "-" => run_file(rt, &mut shelf, file.as_str()),
+        _ => run_input(rt, &mut shelf),
     }
 }
 

@@ -2,6 +2,7 @@
 use crate::cause::Cause;
 use listing::records::Reading;
 use std::alloc::Global;
+use std::fmt;
 use wording::asked::{Question, RECORDS_FORM, read_reading};
 use wording::draft::Draft;
 use wording::number::{number, word};
@@ -45,6 +46,46 @@ pub enum Command {
     Work(Question),
 }
 
+impl fmt::Display for Kind {
+    fn fmt<W: fmt::Write>(&self, f: &mut fmt::Formatter<W>) -> fmt::Result {
+        match self {
+            Kind::Page => write!(f, "page"),
+            Kind::Count => write!(f, "count"),
+        }
+    }
+}
+
+impl fmt::Display for Call {
+    fn fmt<W: fmt::Write>(&self, f: &mut fmt::Formatter<W>) -> fmt::Result {
+        match self {
+            Call::Append(_) => write!(f, "append"),
+            Call::Settle => write!(f, "settle"),
+        }
+    }
+}
+
+// As the answer repeats it: the call and the chip, without what it is given.
+impl fmt::Display for Command {
+    fn fmt<W: fmt::Write>(&self, f: &mut fmt::Formatter<W>) -> fmt::Result {
+        match self {
+            Command::Mount(kind, name, _) => write!(f, "{kind} {name}"),
+            Command::Pair(name, _, _) => write!(f, "pair {name}"),
+            Command::Make(call, name) => write!(f, "{call} {name}"),
+            Command::Read(name, place) => write!(f, "read {name} {place}"),
+            Command::Length(name) => write!(f, "length {name}"),
+            Command::Capacity(name) => write!(f, "capacity {name}"),
+            Command::Words(name) => write!(f, "words {name}"),
+            Command::Save(name, _) => write!(f, "save {name}"),
+            Command::Cut => write!(f, "cut"),
+            Command::CutAfter(stores, call, name) => write!(f, "cut after {stores} {call} {name}"),
+            Command::Cuts(call, name) => write!(f, "cuts {call} {name}"),
+            Command::Record(_) => write!(f, "record"),
+            Command::Records(name, _) => write!(f, "records {name}"),
+            Command::Work(_) => write!(f, "work"),
+        }
+    }
+}
+
 // The command of a line; none where it is blank or only a comment.
 pub fn parse(heap: Global, line: &str) -> Result<Option<Command>, Cause> {
     let tokens = tokens(heap, line)?;
@@ -56,84 +97,57 @@ pub fn parse(heap: Global, line: &str) -> Result<Option<Command>, Cause> {
 
 // The pieces of a line between its blanks. A piece that begins with '#' starts a comment.
 fn tokens(heap: Global, line: &str) -> Result<Vec<String>, Cause> {
-    let mut all = Vec::new(heap);
-    for piece in line.split_whitespace() {
-        if piece.as_bytes().first() == Some(&b'#') {
-            break;
-        }
-        all.push(String::from_str(heap, piece)?)?;
-    }
-    Ok(all)
+    Ok(
+        line.split_whitespace()
+            .take_while(|piece| !piece.starts_with('#'))
+            .map(|piece| String::from_str(heap, piece))
+            .try_collect(heap)?,
+    )
 }
 
 fn parse_command(heap: Global, verb: &str, rest: &[String]) -> Result<Command, Cause> {
     match verb {
-        "page" => mount(heap, Kind::Page, rest),
-        "count" => mount(heap, Kind::Count, rest),
-        "pair" => pair(rest),
+        "page" => parse_mount(heap, Kind::Page, rest),
+        "count" => parse_mount(heap, Kind::Count, rest),
         "append" | "settle" => {
             let (call, name) = parse_call(heap, verb, rest)?;
             Ok(Command::Make(call, name))
         }
-        "read" => read(heap, rest),
-        "length" => Ok(Command::Length(only_name(rest, "length NAME")?)),
-        "capacity" => Ok(Command::Capacity(only_name(rest, "capacity NAME")?)),
-        "words" => Ok(Command::Words(only_name(rest, "words NAME")?)),
-        "save" => save(heap, rest),
-        "cut" => cut(heap, rest),
-        "cuts" => cuts(heap, rest),
+        "cut" => parse_cut(heap, rest),
+        "cuts" => parse_cuts(heap, rest),
         "record" => Ok(Command::Record(Draft::read(heap, rest)?)),
-        "records" => records(heap, rest),
         "work" => Ok(Command::Work(Question::read(heap, rest)?)),
-        _ => Err(Cause::UnknownCall(String::from_str(heap, verb)?)),
+        _ => parse_named(heap, verb, rest),
     }
 }
 
-fn mount(heap: Global, kind: Kind, rest: &[String]) -> Result<Command, Cause> {
-    match rest {
-        [name, words] => {
-            let source = Source::Words(number(heap, words.as_str())?);
-            Ok(Command::Mount(kind, name.clone()?, source))
-        }
-        [name, from, file] if from.as_str() == "from" => {
-            let source = Source::Image(file.clone()?);
-            Ok(Command::Mount(kind, name.clone()?, source))
-        }
-        _ => match kind {
-            Kind::Page => Err(Cause::Shape("page NAME WORDS, or page NAME from FILE")),
-            Kind::Count => Err(Cause::Shape("count NAME WORDS, or count NAME from FILE")),
-        },
+fn parse_mount(heap: Global, kind: Kind, rest: &[String]) -> Result<Command, Cause> {
+    let (name, source) = match rest {
+        [name, words] => (name, Source::Words(number(heap, words.as_str())?)),
+        [name, from, file] if from.as_str() == "from" => (name, Source::Image(file.clone()?)),
+        _ => return Err(Cause::Shape(mount_form(kind))),
+    };
+    Ok(Command::Mount(kind, name.clone()?, source))
+}
+
+fn mount_form(kind: Kind) -> &'static str {
+    match kind {
+        Kind::Page => "page NAME WORDS, or page NAME from FILE",
+        Kind::Count => "count NAME WORDS, or count NAME from FILE",
     }
 }
 
-fn pair(rest: &[String]) -> Result<Command, Cause> {
-    match rest {
-        [name, first, second] => Ok(Command::Pair(name.clone()?, first.clone()?, second.clone()?)),
-        _ => Err(Cause::Shape("pair NAME FIRST SECOND")),
+fn parse_call(heap: Global, verb: &str, rest: &[String]) -> Result<(Call, String), Cause> {
+    match (verb, rest) {
+        ("append", [name, text]) => Ok((Call::Append(word(heap, text.as_str())?), name.clone()?)),
+        ("append", _) => Err(Cause::Shape("append NAME WORD")),
+        ("settle", [name]) => Ok((Call::Settle, name.clone()?)),
+        ("settle", _) => Err(Cause::Shape("settle NAME")),
+        _ => Err(Cause::Shape("append NAME WORD, or settle NAME")),
     }
 }
 
-fn read(heap: Global, rest: &[String]) -> Result<Command, Cause> {
-    match rest {
-        [name, place] => Ok(Command::Read(name.clone()?, number(heap, place.as_str())?)),
-        _ => Err(Cause::Shape("read NAME PLACE")),
-    }
-}
-
-fn save(heap: Global, rest: &[String]) -> Result<Command, Cause> {
-    match rest {
-        [name, files @ ..] if files.len() > 0 => {
-            let mut all = Vec::new(heap);
-            for file in files {
-                all.push(file.clone()?)?;
-            }
-            Ok(Command::Save(name.clone()?, all))
-        }
-        _ => Err(Cause::Shape("save NAME FILE..")),
-    }
-}
-
-fn cut(heap: Global, rest: &[String]) -> Result<Command, Cause> {
+fn parse_cut(heap: Global, rest: &[String]) -> Result<Command, Cause> {
     match rest {
         [] => Ok(Command::Cut),
         [after, stores, verb, more @ ..] if after.as_str() == "after" => {
@@ -147,35 +161,41 @@ fn cut(heap: Global, rest: &[String]) -> Result<Command, Cause> {
     }
 }
 
-fn cuts(heap: Global, rest: &[String]) -> Result<Command, Cause> {
-    match rest {
-        [verb, more @ ..] => {
-            let (call, name) = parse_call(heap, verb.as_str(), more)?;
-            Ok(Command::Cuts(call, name))
-        }
-        [] => Err(Cause::Shape("cuts append NAME WORD, or cuts settle NAME")),
-    }
+fn parse_cuts(heap: Global, rest: &[String]) -> Result<Command, Cause> {
+    let [verb, more @ ..] = rest else {
+        return Err(Cause::Shape("cuts append NAME WORD, or cuts settle NAME"));
+    };
+    let (call, name) = parse_call(heap, verb.as_str(), more)?;
+    Ok(Command::Cuts(call, name))
 }
 
-fn parse_call(heap: Global, verb: &str, rest: &[String]) -> Result<(Call, String), Cause> {
+// A call that begins with a name and stores nothing.
+fn parse_named(heap: Global, verb: &str, rest: &[String]) -> Result<Command, Cause> {
     match (verb, rest) {
-        ("append", [name, text]) => Ok((Call::Append(word(heap, text.as_str())?), name.clone()?)),
-        ("append", _) => Err(Cause::Shape("append NAME WORD")),
-        ("settle", _) => Ok((Call::Settle, only_name(rest, "settle NAME")?)),
-        _ => Err(Cause::Shape("append NAME WORD, or settle NAME")),
-    }
-}
-
-fn only_name(rest: &[String], form: &'static str) -> Result<String, Cause> {
-    match rest {
-        [name] => Ok(name.clone()?),
-        _ => Err(Cause::Shape(form)),
-    }
-}
-
-fn records(heap: Global, rest: &[String]) -> Result<Command, Cause> {
-    match rest {
-        [name, reading @ ..] => Ok(Command::Records(name.clone()?, read_reading(heap, reading)?)),
-        [] => Err(Cause::Shape(RECORDS_FORM)),
+        ("pair", [name, first, second]) => Ok(Command::Pair(
+            name.clone()?,
+            first.clone()?,
+            second.clone()?,
+        )),
+        ("pair", _) => Err(Cause::Shape("pair NAME FIRST SECOND")),
+        ("read", [name, place]) => Ok(Command::Read(name.clone()?, number(heap, place.as_str())?)),
+        ("read", _) => Err(Cause::Shape("read NAME PLACE")),
+        ("length", [name]) => Ok(Command::Length(name.clone()?)),
+        ("length", _) => Err(Cause::Shape("length NAME")),
+        ("capacity", [name]) => Ok(Command::Capacity(name.clone()?)),
+        ("capacity", _) => Err(Cause::Shape("capacity NAME")),
+        ("words", [name]) => Ok(Command::Words(name.clone()?)),
+        ("words", _) => Err(Cause::Shape("words NAME")),
+        ("save", [name, files @ ..]) if !files.is_empty() => {
+            let files = files.iter().map(|file| file.clone()).try_collect(heap)?;
+            Ok(Command::Save(name.clone()?, files))
+        }
+        ("save", _) => Err(Cause::Shape("save NAME FILE..")),
+        ("records", [name, reading @ ..]) => Ok(Command::Records(
+            name.clone()?,
+            read_reading(heap, reading)?,
+        )),
+        ("records", []) => Err(Cause::Shape(RECORDS_FORM)),
+        _ => Err(Cause::UnknownCall(String::from_str(heap, verb)?)),
     }
 }

@@ -1,13 +1,14 @@
 // The chips of a script by their names, and what each command does to them.
-use crate::answer::{Answer, Reply};
+use crate::answer::{Answer, Denial, Outcome, Reply};
 use crate::cause::Cause;
-use crate::held::{Held, Joins, Unjoined};
+use crate::held::{Held, Joins};
 use crate::image;
 use crate::script::{Call, Command, Kind, Source};
 use chip::words::{BLANK, MOST};
-use listing::judgement::Judgement;
+use listing::judgement::judged;
 use listing::records::{Listing, Reading};
 use logs::writer::write;
+use pair::pair::Unpaired;
 use staging::fault::StageFault;
 use staging::moment;
 use staging::traced::Traced;
@@ -32,6 +33,29 @@ impl<C: Joins> Shelf<C> {
         }
     }
 
+    // A command is an enum, since no function may make a closure for it and hand it out.
+    pub fn run(&mut self, rt: &HostRuntime, command: Command) -> Result<Vec<Reply>, Cause> {
+        let heap = self.heap;
+        let call = format!(in heap; "{command}")?;
+        let answer = match command {
+            Command::Mount(kind, name, source) => self.mount(rt, kind, name, source)?,
+            Command::Pair(name, first, second) => self.pair(name, first, second)?,
+            Command::Make(made, name) => self.find_mut(name.as_str())?.make(made),
+            Command::Read(name, place) => self.find(name.as_str())?.read(place),
+            Command::Length(name) => Ok(Answer::Number(self.find(name.as_str())?.count())),
+            Command::Capacity(name) => Ok(Answer::Number(self.find(name.as_str())?.capacity())),
+            Command::Words(name) => Ok(Answer::Words(self.find(name.as_str())?.words(heap)?)),
+            Command::Save(name, files) => Ok(self.save(rt, name.as_str(), files.as_slice())?),
+            Command::CutAfter(stores, made, name) => Ok(self.cut_after(stores, made, name)?),
+            Command::Record(draft) => record(heap, draft)?,
+            Command::Work(question) => Ok(Answer::Text(work(heap, question)?)),
+            Command::Cut => return self.cut(call),
+            Command::Cuts(made, name) => return self.cuts(call, made, name.as_str()),
+            Command::Records(name, reading) => return self.records(call, name.as_str(), reading),
+        };
+        Ok(vec![in heap; Reply { call, answer }]?)
+    }
+
     fn check_free(&self, name: &str) -> Result<(), Cause> {
         if self.chips.contains_key(name) {
             return Err(Cause::TakenName(String::from_str(self.heap, name)?));
@@ -40,221 +64,198 @@ impl<C: Joins> Shelf<C> {
     }
 
     fn find(&self, name: &str) -> Result<&Held<C>, Cause> {
-        match self.chips.get(name) {
-            Some(chip) => Ok(chip),
-            None => Err(Cause::UnknownName(String::from_str(self.heap, name)?)),
-        }
+        self.chips
+            .get(name)
+            .try_ok_or_else(|| unknown(self.heap, name))
+    }
+
+    fn find_mut(&mut self, name: &str) -> Result<&mut Held<C>, Cause> {
+        let heap = self.heap;
+        self.chips
+            .get_mut(name)
+            .try_ok_or_else(|| unknown(heap, name))
     }
 
     fn take(&mut self, name: &str) -> Result<Held<C>, Cause> {
-        match self.chips.remove(name) {
-            Some(chip) => Ok(chip),
-            None => Err(Cause::UnknownName(String::from_str(self.heap, name)?)),
-        }
+        self.chips
+            .remove(name)
+            .try_ok_or_else(|| unknown(self.heap, name))
     }
 
-    fn put(&mut self, name: String, chip: Held<C>) -> Result<(), Cause> {
+    // The answer is what the chip holds.
+    fn put(&mut self, name: String, chip: Held<C>) -> Result<Answer, Cause> {
+        let level = chip.level();
         self.chips.insert(name, chip)?;
-        Ok(())
+        Ok(level)
     }
 
-    fn mount(&mut self, kind: Kind, name: String, words: Vec<u32>) -> Result<Reply, Cause> {
-        let call = match kind {
-            Kind::Page => format!(in self.heap; "page {name}")?,
-            Kind::Count => format!(in self.heap; "count {name}")?,
-        };
-        match Held::mounted(self.heap, kind, Traced::new(self.heap, words)) {
-            Ok(chip) => {
-                let answer = chip.level();
-                self.put(name, chip)?;
-                Ok(Reply { call, answer })
-            }
-            Err(StageFault::Refused(refusal)) => Ok(Reply {
-                call,
-                answer: Answer::Refused(refusal),
-            }),
-            Err(StageFault::Memory) => Err(Cause::Memory),
+    fn mount(
+        &mut self,
+        rt: &HostRuntime,
+        kind: Kind,
+        name: String,
+        source: Source,
+    ) -> Result<Outcome, Cause> {
+        self.check_free(name.as_str())?;
+        let memory = Traced::new(self.heap, source_words(rt, kind, source)?);
+        match Held::mounted(self.heap, kind, memory) {
+            Ok(chip) => Ok(Ok(self.put(name, chip)?)),
+            Err(StageFault::Refused(refusal)) => Ok(Err(Denial::Refused(refusal))),
+            Err(fault) => Err(Cause::from(fault)),
         }
     }
 
-    fn pair(&mut self, name: String, first: String, second: String) -> Result<Reply, Cause> {
+    fn pair(&mut self, name: String, first: String, second: String) -> Result<Outcome, Cause> {
         if first == second {
             return Err(Cause::PairedWithItself(first));
         }
         if name != first && name != second {
             self.check_free(name.as_str())?;
         }
-        let call = format!(in self.heap; "pair {name}")?;
         let front = self.take(first.as_str())?;
         let back = self.take(second.as_str())?;
-        match Held::paired(self.heap, front, back) {
-            Ok(chip) => {
-                let answer = chip.level();
-                self.put(name, chip)?;
-                Ok(Reply { call, answer })
-            }
-            Err(Unjoined::Refused(front, back, refusal)) => {
+        match Held::paired(self.heap, front, back)? {
+            Ok(chip) => Ok(Ok(self.put(name, chip)?)),
+            Err(
+                Unpaired {
+                    first: front,
+                    second: back,
+                    refusal,
+                },
+            ) => {
                 self.put(first, front)?;
                 self.put(second, back)?;
-                Ok(Reply {
-                    call,
-                    answer: Answer::Refused(refusal),
-                })
+                Ok(Err(Denial::Refused(refusal)))
             }
-            Err(Unjoined::TooDeep) => Err(Cause::TooDeep),
-            Err(Unjoined::Memory) => Err(Cause::Memory),
         }
     }
 
-    fn make(&mut self, call: Call, name: String) -> Result<Reply, Cause> {
-        let mut chip = self.take(name.as_str())?;
-        let answer = chip.make(call);
-        let call = said(self.heap, "", call, name.as_str())?;
-        self.put(name, chip)?;
-        Ok(Reply { call, answer })
-    }
-
-    fn read(&self, name: String, place: u64) -> Result<Reply, Cause> {
-        let call = format!(in self.heap; "read {name} {place}")?;
-        // No chip has so many words, so a place past this one gets the same answer.
-        let place = u32::try_from(place).unwrap_or(u32::MAX);
-        Ok(Reply {
-            call,
-            answer: self.find(name.as_str())?.read(place),
-        })
-    }
-
-    fn length(&self, name: String) -> Result<Reply, Cause> {
-        let call = format!(in self.heap; "length {name}")?;
-        Ok(Reply {
-            call,
-            answer: Answer::Number(self.find(name.as_str())?.count()),
-        })
-    }
-
-    fn capacity(&self, name: String) -> Result<Reply, Cause> {
-        let call = format!(in self.heap; "capacity {name}")?;
-        Ok(Reply {
-            call,
-            answer: Answer::Number(self.find(name.as_str())?.capacity()),
-        })
-    }
-
-    fn words(&self, name: String) -> Result<Reply, Cause> {
-        let call = format!(in self.heap; "words {name}")?;
-        Ok(Reply {
-            call,
-            answer: Answer::Words(self.find(name.as_str())?.words(self.heap)?),
-        })
-    }
-
-    fn save(&self, rt: &HostRuntime, name: String, files: Vec<String>) -> Result<Reply, Cause> {
-        let call = format!(in self.heap; "save {name}")?;
-        let images = self.find(name.as_str())?.images(self.heap)?;
+    fn save(&self, rt: &HostRuntime, name: &str, files: &[String]) -> Result<Answer, Cause> {
+        let images = self.find(name)?.images(self.heap)?;
         if images.len() != files.len() {
             return Err(Cause::FileCount(files.len(), images.len()));
         }
-        image::write_all(rt, files.as_slice(), images.as_slice())?;
-        Ok(Reply {
-            call,
-            answer: Answer::Files(files.len()),
-        })
+        image::write_all(rt, files, images.as_slice())?;
+        Ok(Answer::Files(files.len()))
     }
 
-    fn cut(&mut self) -> Result<Vec<Reply>, Cause> {
-        let mut replies = Vec::new(self.heap);
-        let chips = mem::replace(&mut self.chips, BTreeMap::new(self.heap));
-        for (name, chip) in chips {
-            let chip = chip.cut(self.heap)?;
-            let call = format!(in self.heap; "cut {name}")?;
-            let answer = chip.level();
-            self.put(name, chip)?;
+    fn cut(&mut self, call: String) -> Result<Vec<Reply>, Cause> {
+        let heap = self.heap;
+        let mut replies = Vec::new(heap);
+        for (name, chip) in mem::try_take(&mut self.chips)? {
+            let call = format!(in heap; "{call} {name}")?;
+            let answer = Ok(self.put(name, chip.cut(heap)?)?);
             replies.push(Reply { call, answer })?;
         }
         if replies.is_empty() {
-            let call = String::from_str(self.heap, "cut")?;
             replies.push(Reply {
                 call,
-                answer: Answer::NoChips,
+                answer: Ok(Answer::NoChips),
             })?;
         }
         Ok(replies)
     }
 
-    fn cut_after(&mut self, stores: u64, call: Call, name: String) -> Result<Reply, Cause> {
+    fn cut_after(&mut self, stores: u64, call: Call, name: String) -> Result<Answer, Cause> {
         let heap = self.heap;
-        let mut chip = self.take(name.as_str())?;
-        let before = chip.stores(heap)?;
-        let _ = chip.make(call);
-        let after = chip.stores(heap)?;
-        let made = moment::stores_between(before.as_slice(), after.as_slice());
-        let reached = usize::try_from(stores).unwrap_or(usize::MAX);
-        if reached > made {
+        let chip = self.find_mut(name.as_str())?;
+        let (_, noted) = Noted::of(heap, chip, call)?;
+        let made = noted.stores();
+        let stores = usize::try_from(stores).unwrap_or(usize::MAX);
+        if stores > made {
             return Err(Cause::FewStores(made));
         }
-        let counts = moment::counts_at(heap, before.as_slice(), after.as_slice(), reached)?;
-        let chip = chip.remounted(heap, counts.as_slice())?;
-        let front = format!(in heap; "cut after {stores} ")?;
-        let call = said(heap, front.as_str(), call, name.as_str())?;
-        let answer = chip.level();
-        self.put(name, chip)?;
-        Ok(Reply { call, answer })
+        let chip = noted.found_after(heap, chip, stores)?;
+        self.put(name, chip)
     }
 
-    fn cuts(&mut self, call: Call, name: String) -> Result<Vec<Reply>, Cause> {
+    fn cuts(&mut self, label: String, call: Call, name: &str) -> Result<Vec<Reply>, Cause> {
         let heap = self.heap;
-        let mut chip = self.take(name.as_str())?;
-        let before = chip.stores(heap)?;
-        let answer = chip.make(call);
-        let after = chip.stores(heap)?;
-        let label = said(heap, "cuts ", call, name.as_str())?;
-        let mut replies = Vec::new(heap);
-        replies.push(Reply {
-            call: label.clone()?,
-            answer,
-        })?;
-        let made = moment::stores_between(before.as_slice(), after.as_slice());
+        let chip = self.find_mut(name)?;
+        let (answer, noted) = Noted::of(heap, chip, call)?;
+        let made = noted.stores();
+        let mut replies = vec![in heap;
+            Reply {
+                call: label.clone()?,
+                answer
+            },
+        ]?;
         for stores in 0..=made {
-            let counts = moment::counts_at(heap, before.as_slice(), after.as_slice(), stores)?;
-            let words = chip.remounted(heap, counts.as_slice())?.words(heap)?;
-            let call = format!(in heap; "{label} after {stores} of {made}")?;
+            let words = noted.found_after(heap, chip, stores)?.words(heap)?;
             replies.push(Reply {
-                call,
-                answer: Answer::Words(words),
+                call: format!(in heap; "{label} after {stores} of {made}")?,
+                answer: Ok(Answer::Words(words)),
             })?;
         }
-        self.put(name, chip)?;
         Ok(replies)
     }
 
-    fn records(&self, name: String, reading: Reading) -> Result<Vec<Reply>, Cause> {
+    fn records(&self, call: String, name: &str, reading: Reading) -> Result<Vec<Reply>, Cause> {
         let heap = self.heap;
-        let words = self.find(name.as_str())?.words(heap)?;
+        let words = self.find(name)?.words(heap)?;
         let listing = Listing::of(heap, reading, words.as_slice())?;
         let mut replies = Vec::new(heap);
         for line in lines(heap, reading, &listing)? {
-            let call = format!(in heap; "records {name}")?;
             replies.push(Reply {
-                call,
-                answer: Answer::Text(line),
+                call: call.clone()?,
+                answer: Ok(Answer::Text(line)),
             })?;
         }
         Ok(replies)
     }
 }
 
-fn record(heap: Global, draft: Draft) -> Result<Reply, Cause> {
-    let call = String::from_str(heap, "record")?;
-    let answer = match write(draft.vector, draft.body.as_slice()) {
-        Ok(words) => Answer::Words(words.as_slice().to_vec(heap)?),
-        Err(why) => Answer::NotWritten(why),
-    };
-    Ok(Reply { call, answer })
+// How many stores each memory of a chip had noted before a call and after it.
+#[derive(Drop)]
+struct Noted {
+    before: Vec<usize>,
+    after: Vec<usize>,
 }
 
-fn work(heap: Global, question: Question) -> Result<Reply, Cause> {
-    let call = String::from_str(heap, "work")?;
-    let judgement = Judgement::of(
+impl Noted {
+    // Makes the call.
+    fn of<C: Joins>(
+        heap: Global,
+        chip: &mut Held<C>,
+        call: Call,
+    ) -> Result<(Outcome, Noted), Cause> {
+        let before = chip.stores(heap)?;
+        let outcome = chip.make(call);
+        let after = chip.stores(heap)?;
+        Ok((outcome, Noted { before, after }))
+    }
+
+    // How many stores the call made.
+    fn stores(&self) -> usize {
+        moment::stores_between(self.before.as_slice(), self.after.as_slice())
+    }
+
+    // What a mount finds if the power goes after so many stores of the call.
+    fn found_after<C: Joins>(
+        &self,
+        heap: Global,
+        chip: &Held<C>,
+        stores: usize,
+    ) -> Result<Held<C>, Cause> {
+        let (before, after) = (self.before.as_slice(), self.after.as_slice());
+        let counts = moment::counts_at(heap, before, after, stores)?;
+        Ok(chip.remounted(heap, counts.as_slice())?)
+    }
+}
+
+fn unknown(heap: Global, name: &str) -> Result<Cause, Cause> {
+    Ok(Cause::UnknownName(String::from_str(heap, name)?))
+}
+
+fn record(heap: Global, draft: Draft) -> Result<Outcome, Cause> {
+    match write(draft.vector, draft.body.as_slice()) {
+        Ok(words) => Ok(Ok(Answer::Words(words.as_slice().to_vec(heap)?))),
+        Err(why) => Ok(Err(Denial::NotWritten(why))),
+    }
+}
+
+fn work(heap: Global, question: Question) -> Result<String, Cause> {
+    let judgement = judged(
         heap,
         question.kind,
         question.cells,
@@ -263,15 +264,7 @@ fn work(heap: Global, question: Question) -> Result<Reply, Cause> {
     let judgement = JudgementText {
         judgement: &judgement,
     };
-    let answer = Answer::Text(format!(in heap; "{judgement}")?);
-    Ok(Reply { call, answer })
-}
-
-fn said(heap: Global, front: &str, call: Call, name: &str) -> Result<String, Cause> {
-    match call {
-        Call::Append(_) => Ok(format!(in heap; "{front}append {name}")?),
-        Call::Settle => Ok(format!(in heap; "{front}settle {name}")?),
-    }
+    Ok(format!(in heap; "{judgement}")?)
 }
 
 // The memory of a new chip: blank, but for the number of words that a count chip begins with.
@@ -280,8 +273,8 @@ fn unused(heap: Global, kind: Kind, size: u64) -> Result<Vec<u32>, Cause> {
     let above = MOST + 2;
     let size = usize::try_from(size).unwrap_or(above).min(above);
     let mut words = vec![in heap; BLANK; size]?;
-    if matches!(kind, Kind::Count) && words.len() > 0 {
-        words[0] = 0;
+    if let (Kind::Count, Some(number)) = (kind, words.first_mut()) {
+        *number = 0;
     }
     Ok(words)
 }
@@ -291,46 +284,4 @@ fn source_words(rt: &HostRuntime, kind: Kind, source: Source) -> Result<Vec<u32>
         Source::Words(size) => unused(rt.alloc(), kind, size),
         Source::Image(file) => image::read(rt, file.as_str()),
     }
-}
-
-fn alone(heap: Global, reply: Reply) -> Result<Vec<Reply>, Cause> {
-    let mut replies = Vec::new(heap);
-    replies.push(reply)?;
-    Ok(replies)
-}
-
-fn run_mount<C: Joins>(
-    rt: &HostRuntime,
-    shelf: &mut Shelf<C>,
-    kind: Kind,
-    name: String,
-    source: Source,
-) -> Result<Reply, Cause> {
-    shelf.check_free(name.as_str())?;
-    let words = source_words(rt, kind, source)?;
-    shelf.mount(kind, name, words)
-}
-
-pub fn run<C: Joins>(
-    rt: &HostRuntime,
-    shelf: &mut Shelf<C>,
-    command: Command,
-) -> Result<Vec<Reply>, Cause> {
-    let reply = match command {
-        Command::Mount(kind, name, source) => run_mount(rt, shelf, kind, name, source)?,
-        Command::Pair(name, first, second) => shelf.pair(name, first, second)?,
-        Command::Make(call, name) => shelf.make(call, name)?,
-        Command::Read(name, place) => shelf.read(name, place)?,
-        Command::Length(name) => shelf.length(name)?,
-        Command::Capacity(name) => shelf.capacity(name)?,
-        Command::Words(name) => shelf.words(name)?,
-        Command::Save(name, files) => shelf.save(rt, name, files)?,
-        Command::CutAfter(stores, call, name) => shelf.cut_after(stores, call, name)?,
-        Command::Record(draft) => record(rt.alloc(), draft)?,
-        Command::Work(question) => work(rt.alloc(), question)?,
-        Command::Cut => return shelf.cut(),
-        Command::Cuts(call, name) => return shelf.cuts(call, name),
-        Command::Records(name, reading) => return shelf.records(name, reading),
-    };
-    alone(rt.alloc(), reply)
 }

@@ -1,9 +1,10 @@
 -- What joined and reached vectors have at each chip, and that a join is the least vector above both.
-use Rattle.std.proofs.Common.{◌≡◌, ℕ, zero, suc, ◌+◌, ◌<◌, ◌≤◌, max, true, leb, nat_le, ◌&&◌, List, [], ◌∷◌, length, get_or, sym, refl, ap, ◌∙◌, subst, inl, inr, arith}
+use Rattle.std.proofs.Common.{◌≡◌, ℕ, zero, suc, ◌+◌, ◌<◌, ◌≤◌, max, true, nat_le, ◌&&◌, List, [], ◌∷◌, length, get_or, sym, refl, ap, ◌∙◌, subst, inl, inr, arith}
 use Rattle.std.specs.Array.{IsFromFnResult, IsFromFnResultFrom}
 use Rattle.std.specs.Fn.{Mut, Called}
 use Rattle.std.specs.List.{list_all, zip}
-use Rattle.std.proofs.lemmas.Bool.{le-leb, leb-true, and_from, and_parts, cases_eq}
+use Rattle.std.proofs.lemmas.Bool.Decides.{nat_tests}
+use Rattle.std.proofs.lemmas.Bool.{and_parts, cases_eq}
 use Rattle.std.proofs.lemmas.List.{ext_get_or}
 use Rattle.vector.specs.Vectors.{joined, reached_by, LeastAbove}
 
@@ -23,13 +24,15 @@ pub reached_from : (xs ys : List ℕ) → length xs ≡ length ys → ((k : ℕ)
 reached_from [] ys e h = refl
 reached_from (x ∷ xs) [] e h = absurd (omega arith)
 reached_from (x ∷ xs) (y ∷ ys) e h =
-    and_from (leb x y) (reached_by xs ys) (le-leb x y (h 0 (omega arith))) (reached_from xs ys (omega arith) (λ k l. h (suc k) (omega arith)))
+    let first = h 0 (omega arith) in
+    let rest = reached_from xs ys (omega arith) (λ k l. h (suc k) (omega arith)) in
+    grind (arith, nat_tests)
 
 pub reached_at : (xs ys : List ℕ) → reached_by xs ys ≡ true → (k : ℕ) → get_or xs k 0 ≤ get_or ys k 0
 reached_at [] ys h k = omega arith
-reached_at (x ∷ xs) [] h k = absurd (let z : ◌≡◌ {A = ℕ} 0 1 = cc in omega arith)
-reached_at (x ∷ xs) (y ∷ ys) h zero = leb-true x y (and_parts (leb x y) (reached_by xs ys) h).0
-reached_at (x ∷ xs) (y ∷ ys) h (suc k) = reached_at xs ys (and_parts (leb x y) (reached_by xs ys) h).1 k
+reached_at (x ∷ xs) [] h k = cc
+reached_at (x ∷ xs) (y ∷ ys) h zero = grind (arith, nat_tests)
+reached_at (x ∷ xs) (y ∷ ys) h (suc k) = reached_at xs ys (and_parts (nat_le x y) (reached_by xs ys) h).1 k
 
 -- `reached_by` as the chain of the code has it
 pub reached_by-zip : (xs ys : List ℕ) → length xs ≡ length ys → reached_by xs ys ≡ list_all (λ p. nat_le p.0 p.1) (zip xs ys)

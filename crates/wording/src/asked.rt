@@ -23,11 +23,7 @@ pub struct Question {
 }
 
 fn read_kind(heap: Global, text: &str) -> Result<Chosen, Misread> {
-    match text {
-        "values" => Ok(Chosen::Values),
-        "commands" => Ok(Chosen::Commands),
-        _ => Err(Misread::UnknownWork(String::from_str(heap, text)?)),
-    }
+    text.parse().try_map_err(|_| Ok(Misread::UnknownWork(String::from_str(heap, text)?)))
 }
 
 impl Question {
@@ -52,20 +48,17 @@ pub fn read_reading(heap: Global, pieces: &[String]) -> Result<Reading, Misread>
         return Err(Misread::Shape(RECORDS_FORM));
     };
     let kind = read_kind(heap, kind.as_str())?;
-    let numbers = numbers_at(heap, MARKS, RECORDS_FORM, rest)?;
-    let [cells, chip, chips] = numbers.as_slice() else {
-        return Err(Misread::Shape(RECORDS_FORM));
-    };
-    if *chips == 0 || *chips as usize > CHIPS {
-        return Err(Misread::ChipCount(*chips));
+    let [cells, chip, chips] = numbers_at::<3>(heap, MARKS, RECORDS_FORM, rest)?;
+    if chips == 0 || chips as usize > CHIPS {
+        return Err(Misread::ChipCount(chips));
     }
-    if *chip >= *chips {
-        return Err(Misread::NoSuchChip(*chip, *chips));
+    if chip >= chips {
+        return Err(Misread::NoSuchChip(chip, chips));
     }
     Ok(Reading {
         kind,
-        cells: *cells,
-        chips: *chips,
-        chip: *chip,
+        cells,
+        chips,
+        chip,
     })
 }

@@ -2,9 +2,11 @@
 use crate::misread::Misread;
 use crate::number::word;
 use crate::pieces::{numbers_at, words};
-use commands::commands::{ADD, CLOSE, Command, LATCH};
+use commands::commands::Command;
+use commands::operation::Operation;
 use listing::field::payloads;
 use std::alloc::Global;
+use vector::format::CHIPS;
 
 const ADD_FORM: &str = "add AMOUNT to A sender S number N";
 
@@ -19,35 +21,33 @@ const VECTOR_FORM: &str = "vector PLACE [PLACE].., with up to eight places";
 // What a record is written from.
 #[derive(Drop)]
 pub struct Draft {
-    pub vector: [u32; 8],
+    pub vector: [u32; CHIPS],
     pub body: Vec<u32>,
 }
 
 impl Draft {
     // A body, and a vector if there is one; else all its places are 0.
     pub fn read(heap: Global, pieces: &[String]) -> Result<Draft, Misread> {
-        for (index, piece) in pieces.iter().enumerate() {
-            if piece.as_str() == "vector" {
-                let body = read_body(heap, &pieces[0..index])?;
-                let vector = read_vector(heap, &pieces[index + 1..])?;
-                return Ok(Draft { vector, body });
-            }
+        match pieces.iter().position(|piece| piece.as_str() == "vector") {
+            Some(mark) => Ok(Draft {
+                body: read_body(heap, &pieces[..mark])?,
+                vector: read_vector(heap, &pieces[mark + 1..])?,
+            }),
+            None => Ok(Draft {
+                body: read_body(heap, pieces)?,
+                vector: [0; CHIPS],
+            }),
         }
-        let body = read_body(heap, pieces)?;
-        Ok(Draft {
-            vector: [0; 8],
-            body,
-        })
     }
 }
 
-fn read_vector(heap: Global, pieces: &[String]) -> Result<[u32; 8], Misread> {
-    if pieces.is_empty() || pieces.len() > 8 {
+fn read_vector(heap: Global, pieces: &[String]) -> Result<[u32; CHIPS], Misread> {
+    if pieces.is_empty() || pieces.len() > CHIPS {
         return Err(Misread::Shape(VECTOR_FORM));
     }
-    let mut vector = [0; 8];
-    for (chip, piece) in pieces.iter().enumerate() {
-        vector[chip] = word(heap, piece.as_str())?;
+    let mut vector = [0; CHIPS];
+    for (place, piece) in vector.iter_mut().zip(pieces) {
+        *place = word(heap, piece.as_str())?;
     }
     Ok(vector)
 }
@@ -58,67 +58,66 @@ pub fn read_body(heap: Global, pieces: &[String]) -> Result<Vec<u32>, Misread> {
         return Err(Misread::NoBody);
     };
     match verb.as_str() {
-        "add" => encoded(heap, read_add(heap, pieces)?),
-        "close" => encoded(heap, read_close(heap, pieces)?),
-        "latch" => encoded(heap, read_latch(heap, pieces)?),
         "set" if rest.is_empty() || rest.len() % 2 == 1 => Err(Misread::Shape(SET_FORM)),
         "set" | "raw" => words(heap, rest),
-        _ => Err(Misread::NoBody),
+        verb => {
+            let command = read_command(heap, verb, pieces)?;
+            Ok(payloads(command)?.to_vec(heap)?)
+        }
     }
 }
 
-fn encoded(heap: Global, command: Command) -> Result<Vec<u32>, Misread> {
-    let body = payloads(command)?;
-    Ok(body.to_vec(heap)?)
-}
+// What the fields are that a line does not name.
+const UNNAMED: Command = Command {
+    operation: 0,
+    sender: 0,
+    number: 0,
+    a: 0,
+    b: 0,
+    c: 0,
+    spare: 0,
+    amount: 0,
+};
 
-fn read_add(heap: Global, pieces: &[String]) -> Result<Command, Misread> {
-    let numbers = numbers_at(heap, ADD_FORM, ADD_FORM, pieces)?;
-    let [amount, a, sender, number] = numbers.as_slice() else {
-        return Err(Misread::Shape(ADD_FORM));
-    };
-    Ok(Command {
-        operation: ADD,
-        sender: *sender,
-        number: *number,
-        a: *a,
-        b: 0,
-        c: 0,
-        spare: 0,
-        amount: *amount,
-    })
-}
-
-fn read_close(heap: Global, pieces: &[String]) -> Result<Command, Misread> {
-    let numbers = numbers_at(heap, CLOSE_FORM, CLOSE_FORM, pieces)?;
-    let [a, b, sender, number] = numbers.as_slice() else {
-        return Err(Misread::Shape(CLOSE_FORM));
-    };
-    Ok(Command {
-        operation: CLOSE,
-        sender: *sender,
-        number: *number,
-        a: *a,
-        b: *b,
-        c: 0,
-        spare: 0,
-        amount: 0,
-    })
-}
-
-fn read_latch(heap: Global, pieces: &[String]) -> Result<Command, Misread> {
-    let numbers = numbers_at(heap, LATCH_FORM, LATCH_FORM, pieces)?;
-    let [a, c, b, amount, sender, number] = numbers.as_slice() else {
-        return Err(Misread::Shape(LATCH_FORM));
-    };
-    Ok(Command {
-        operation: LATCH,
-        sender: *sender,
-        number: *number,
-        a: *a,
-        b: *b,
-        c: *c,
-        spare: 0,
-        amount: *amount,
-    })
+fn read_command(heap: Global, verb: &str, pieces: &[String]) -> Result<Command, Misread> {
+    match verb {
+        "add" => {
+            let [amount, a, sender, number] = numbers_at::<4>(heap, ADD_FORM, ADD_FORM, pieces)?;
+            Ok(Command {
+                operation: u32::from(Operation::Add),
+                sender,
+                number,
+                a,
+                amount,
+                ..UNNAMED
+            })
+        }
+        "close" => {
+            let [a, b, sender, number] = numbers_at::<4>(heap, CLOSE_FORM, CLOSE_FORM, pieces)?;
+            Ok(Command {
+                operation: u32::from(Operation::Close),
+                sender,
+                number,
+                a,
+                b,
+                ..UNNAMED
+            })
+        }
+        "latch" => {
+            let [a, c, b, amount, sender, number] = numbers_at::<6>(
+                heap, LATCH_FORM, LATCH_FORM, pieces,
+            )?;
+            Ok(Command {
+                operation: u32::from(Operation::Latch),
+                sender,
+                number,
+                a,
+                b,
+                c,
+                amount,
+                ..UNNAMED
+            })
+        }
+        _ => Err(Misread::NoBody),
+    }
 }

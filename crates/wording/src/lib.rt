@@ -5,7 +5,7 @@
 //     for line in lines(heap, reading, &listing)? { .. }
 //
 // `number` and `pieces` read numbers, `draft` a body and a vector, `asked` how a log or a body is to be read; `misread` says
-// why a line cannot be read. `show` has bodies, vectors and faults in words, and `told` what is told of a log and of a body.
+// why a line cannot be read. `show` has bodies in words, and `told` what is told of a log and of a body.
 #![tactic(auto)]
 
 pub mod asked;

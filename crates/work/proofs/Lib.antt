@@ -1,1 +1,1 @@
-pub mod PairLaws
+pub mod ValuePairs

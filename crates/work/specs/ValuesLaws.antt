@@ -1,12 +1,13 @@
 -- What the pairs of a body of values name and do.
-use Rattle.std.specs.Prelude.{◌≡◌, ℕ, zero, suc, ◌*◌, ◌/◌, ◌%◌, ◌<◌, ◌≤◌, true, false, ◌&&◌, ◌≢◌, List, [], ◌∷◌, length, Some, None, Ok, ◌==◌, nat_lt, slice_index, slice_set, refl}
+use Rattle.std.specs.Prelude.{◌≡◌, ℕ, zero, suc, ◌*◌, ◌/◌, ◌<◌, ◌≤◌, true, false, ◌&&◌, List, [], ◌∷◌, length, Some, None, Ok, ◌==◌, slice_index, slice_set, refl}
 use Rattle.std.proofs.Common.{sym, ap, ◌∙◌, arith}
 use Rattle.std.proofs.lemmas.List.{length-set, get_or-set_other}
-use Rattle.std.proofs.lemmas.Bool.{ltb-true, eqb-true, eqb-false, and_parts, or_parts}
+use Rattle.std.proofs.lemmas.Bool.Decides.{nat_tests}
+use Rattle.std.proofs.lemmas.Bool.{and_parts, or_parts}
 use Rattle.work.specs.declared.name.Name.{Name}
 use Rattle.work.specs.KindLaws.{ok_then, payloads_below}
 use Rattle.work.specs.TableLaws.{set_same, set_within_top}
-use Rattle.work.specs.Kinds.{Lawful, top, nth, fit_payloads, within, rising, names_writing, written, writing, Alike, WithinTop}
+use Rattle.work.specs.Kinds.{Lawful, nth, fit_payloads, within, rising, names_writing, written, writing, Alike, WithinTop}
 use Rattle.work.specs.Values.{values, values_names, values_effect, values_judged, pairs_fit}
 
 pub nth_behind : (body : List ℕ) (i : ℕ) → length body / 2 ≤ i → nth (values_names body) i ≡ None
@@ -20,10 +21,8 @@ nth_pair [] i h = absurd (omega arith)
 nth_pair (c ∷ []) i h = absurd (omega arith)
 nth_pair (c ∷ v ∷ rest) zero h = refl
 nth_pair (c ∷ v ∷ rest) (suc i) h =
-    nth_pair rest i (omega arith) ∙ ap (λ k. Some (writing (slice_index (c ∷ v ∷ rest) k))) (twice i)
-  where
-    twice : (i : ℕ) → suc (suc (2 * i)) ≡ 2 * suc i
-    twice i = omega arith
+    let twice : suc (suc (2 * i)) ≡ 2 * suc i = omega arith in
+    nth_pair rest i (omega arith) ∙ ap (λ k. Some (writing (slice_index (c ∷ v ∷ rest) k))) twice
 
 pub length_names : (body : List ℕ) → length (values_names body) ≡ length body / 2
 length_names [] = refl
@@ -40,8 +39,7 @@ unwritten_stay [] table x h = refl
 unwritten_stay (c ∷ []) table x h = refl
 unwritten_stay (c ∷ v ∷ rest) table x h =
     let parts = or_parts (c == x) (written (values_names rest) x) h in
-    let apart : x ≢ c = λ e. eqb-false c x parts.0 (sym e) in
-    unwritten_stay rest (slice_set table c v) x parts.1 ∙ get_or-set_other table c x v 0 apart
+    unwritten_stay rest (slice_set table c v) x parts.1 ∙ get_or-set_other table c x v 0 (grind (arith, nat_tests))
 
 pub same_stay_same : (body t u : List ℕ) (x : ℕ) → length t ≡ length u → slice_index t x ≡ slice_index u x → slice_index (values_effect body t) x ≡ slice_index (values_effect body u) x
 same_stay_same [] t u x level h = h
@@ -53,9 +51,8 @@ pub effect_within_top : (body table : List ℕ) → fit_payloads body ≡ true �
 effect_within_top [] table fits h = h
 effect_within_top (c ∷ []) table fits h = h
 effect_within_top (c ∷ v ∷ rest) table fits h =
-    let more = and_parts (nat_lt v 536870912) (fit_payloads rest) (and_parts (nat_lt c 536870912) (nat_lt v 536870912 && fit_payloads rest) fits).1 in
-    let small : v ≤ top = omega (arith, ltb-true v 536870912 more.0) in
-    effect_within_top rest (slice_set table c v) more.1 (set_within_top table c v small h)
+    let below = payloads_below (c ∷ v ∷ rest) fits in
+    effect_within_top rest (slice_set table c v) (grind (arith, nat_tests)) (set_within_top table c v below.1.0 h)
 
 -- what a well-formed body keeps to
 pub record Sound (body : List ℕ) (cells : ℕ) : Type 0 where
@@ -69,15 +66,10 @@ pub sound_values : (body : List ℕ) (cells : ℕ) → values_judged body cells 
 sound_values body cells ok =
     let first = ok_then (pairs_fit (length body) && fit_payloads body) _ _ ok in
     let shape = and_parts (pairs_fit (length body)) (fit_payloads body) first.0 in
-    let count = and_parts (nat_lt 0 (length body)) _ shape.0 in
-    let more = and_parts (nat_lt (length body) 17) _ count.1 in
-    let low = ltb-true 0 (length body) count.0 in
-    let high = ltb-true (length body) 17 more.0 in
-    let even = eqb-true (length body % 2) 0 more.1 in
     let second = ok_then (within cells (values_names body)) _ _ first.1 in
     record {
-      some = omega (arith, low, even);
-      few = omega (arith, high);
+      some = grind (arith, nat_tests);
+      few = grind (arith, nat_tests);
       fits = shape.1;
       there = second.0;
       rises = (ok_then (rising (values_names body)) _ _ second.1).0;

@@ -2,7 +2,7 @@ use Rattle.std.proofs.Common.{nat_lt, slice_index, rules, tests, sym, ◌∙◌}
 use Rattle.std.proofs.lemmas.Iterator.{YieldsList-from_slice}
 use Rattle.std.proofs.lemmas.Iterator.Search.{all_from_yields_List}
 use Rattle.work.specs.Values.{pairs_of}
-use Rattle.work.proofs.PairLaws.{within_by_pairs}
+use Rattle.work.proofs.ValuePairs.{within_by_pairs}
 use Rattle.work.proofs.values.cells_are_there.Goals as goal
 
 pub returns : goal.returns

@@ -1,6 +1,6 @@
 use Rattle.std.proofs.Common.{rules, tests}
 use Rattle.std.proofs.lemmas.List.Sorted.{answers_always}
-use Rattle.work.proofs.PairLaws.{cells_below, rising_by_pairs}
+use Rattle.work.proofs.ValuePairs.{cells_below, rising_by_pairs}
 use Rattle.work.proofs.values.cells_rise.Goals as goal
 
 pub returns : goal.returns

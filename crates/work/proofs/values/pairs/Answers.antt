@@ -1,5 +1,5 @@
 use Rattle.std.proofs.Common.{◌∙◌}
-use Rattle.work.proofs.PairLaws.{chunks_are_pairs}
+use Rattle.work.proofs.ValuePairs.{chunks_are_pairs}
 use Rattle.work.proofs.values.pairs.Goals as goal
 
 pub returns : goal.returns

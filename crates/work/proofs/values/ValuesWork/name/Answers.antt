@@ -1,6 +1,6 @@
 use Rattle.std.proofs.Common.{◌∙◌, length, sym, ap, arith}
 use Rattle.work.specs.ValuesLaws.{nth_behind, nth_pair}
-use Rattle.work.proofs.PairLaws.{length-pairs, cell_of_pair}
+use Rattle.work.proofs.ValuePairs.{length-pairs, cell_of_pair}
 use Rattle.work.proofs.values.ValuesWork.name.Goals as goal
 
 pub returns-in_err-cell : goal.returns-in_err-cell

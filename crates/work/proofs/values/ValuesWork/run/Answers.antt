@@ -1,6 +1,6 @@
 use Rattle.std.proofs.Common.{arith}
 use Rattle.std.proofs.lemmas.Grind.{common_steps}
-use Rattle.work.proofs.PairLaws.{effect_by_pairs}
+use Rattle.work.proofs.ValuePairs.{effect_by_pairs}
 use Rattle.work.proofs.values.ValuesWork.run.Goals as goal
 
 pub returns : goal.returns
