@@ -3,7 +3,8 @@ use Rattle.std.proofs.Common.{◌≡◌, ℕ, zero, suc, ◌+◌, ◌-◌, ◌*�
 use Rattle.std.proofs.Math.Seq.{take-append-add}
 use Rattle.std.proofs.lemmas.List.{append-nil, append_assoc, length-append, length_push, length-map, set_at, take-append-le, drop_at}
 use Rattle.std.proofs.lemmas.Nat.{div-mul-add, mod-mul-add}
-use Rattle.std.proofs.lemmas.Bool.{lt-ltb, le-ltb, le-leb, eq-eqb, ne_eqb, ltb-true, eqb-true, eqb-false, and_from, and_parts, and_left, and_right, cases_eq, cases_lt, cond-true, cond-false, cond_both}
+use Rattle.std.proofs.lemmas.Bool.{lt-ltb, le-ltb, le-leb, eq-eqb, ltb-true, eqb-true, eqb-false, and_from, and_parts, cases_lt, cond-true, cond-false, cond_both}
+use Rattle.std.proofs.lemmas.Bool.Decides.{nat_tests}
 use Rattle.vector.specs.Format.{kind_of, payload_of}
 use Rattle.vector.specs.Vectors.{zeros}
 use Rattle.work.specs.Kinds.{Kind, WellFormed, fit_payloads}
@@ -50,11 +51,7 @@ entry_is chip place few near =
     ap (λ x. of x (payload_of word % 67108864)) at-chip ∙ ap (of chip) at_place
 
 not_past : (o : Origin) (chip place : ℕ) → (chip ≡ o.chip → place ≤ o.start) → is_past_start o (record { chip = chip; place = place }) ≡ false
-not_past o chip place own = by_chip (cases_eq chip o.chip)
-  where
-    by_chip : (chip ≡ o.chip) ⊎ (chip ≡ o.chip → ⊥) → is_past_start o (record { chip = chip; place = place }) ≡ false
-    by_chip (inl here) = and_right (eqb chip o.chip) (ltb o.start place) (le-ltb o.start place (own here))
-    by_chip (inr apart) = and_left (eqb chip o.chip) (ltb o.start place) (ne_eqb chip o.chip apart)
+not_past o chip place own = grind (arith, nat_tests)
 
 pub entry_back : (o : Origin) (low chip place : ℕ) → low ≤ chip → chip < o.chips → chip < 8 → 0 < place → place < 67108864 → (chip ≡ o.chip → place ≤ o.start) → entry_of o low (entry_word chip place) ≡ Ok (record { chip = chip; place = place })
 entry_back o low chip place rises there few some near own =

@@ -1,12 +1,12 @@
 -- The words of a record, one more at a time.
-use Rattle.std.proofs.Common.{◌≡◌, ℕ, zero, suc, ◌+◌, ◌<◌, ◌≤◌, Bool, true, false, cond, not, eqb, ltb, List, [], ◌∷◌, ◌++◌, length, get_or, take, sym, refl, ap, ◌∙◌, add-zero, arith}
+use Rattle.std.proofs.Common.{◌≡◌, ℕ, zero, suc, ◌+◌, ◌<◌, ◌≤◌, true, not, eqb, ltb, List, [], ◌∷◌, ◌++◌, length, get_or, take, sym, refl, ap, ◌∙◌, add-zero, arith}
 use Rattle.std.specs.List.{count_by, filter}
 use Rattle.std.proofs.lemmas.List.Sums.{length-filter, count_by-le-length}
 use Rattle.std.proofs.lemmas.List.{append_assoc, length-take-le, take_more}
 use Rattle.std.proofs.lemmas.Bool.{ltb-true, and_parts}
 use Rattle.std.proofs.lemmas.Bool.Decides.{nat_tests}
 use Rattle.work.specs.Kinds.{fit_payloads}
-use Rattle.logs.specs.Words.{entry_word, entry_words}
+use Rattle.logs.specs.Words.{entry_words}
 
 pub entry_words_append : (chip : ℕ) (xs ys : List ℕ) → entry_words chip (xs ++ ys) ≡ entry_words chip xs ++ entry_words (chip + length xs) ys
 entry_words_append chip [] ys = ap (λ k. entry_words k ys) (sym (add-zero chip))
@@ -15,11 +15,7 @@ entry_words_append chip (x ∷ xs) ys = grind (arith, nat_tests, entry_words_app
 -- a vector has a word for each place that is not 0
 words_of_places : (chip : ℕ) (v : List ℕ) → length (entry_words chip v) ≡ length (filter (λ place. not (eqb place 0)) v)
 words_of_places chip [] = refl
-words_of_places chip (place ∷ v) = by_test (eqb place 0) (words_of_places (suc chip) v)
-  where
-    by_test : (b : Bool) → length (entry_words (suc chip) v) ≡ length (filter (λ p. not (eqb p 0)) v) → length (cond b (entry_words (suc chip) v) (entry_word chip place ∷ entry_words (suc chip) v)) ≡ length (cond (not b) (place ∷ filter (λ p. not (eqb p 0)) v) (filter (λ p. not (eqb p 0)) v))
-    by_test true h = h
-    by_test false h = ap suc h
+words_of_places chip (place ∷ v) = grind (arith, nat_tests, words_of_places (suc chip) v)
 
 pub entry_words_counted : (chip : ℕ) (v : List ℕ) → length (entry_words chip v) ≡ count_by (λ place. not (eqb place 0)) v
 entry_words_counted chip v = words_of_places chip v ∙ length-filter (λ place. not (eqb place 0)) v

@@ -3,7 +3,8 @@ use Rattle.std.proofs.Common.{◌≡◌, ℕ, zero, suc, ◌+◌, ◌-◌, ◌*�
 use Rattle.std.proofs.Math.Seq.{take-add}
 use Rattle.std.proofs.lemmas.Nat.{div-add-mod'}
 use Rattle.std.proofs.lemmas.List.{append-nil, append_assoc, length-append, length-map, length-replicate, set_at, length-take-le, replicate-append-replicate, drop-drop}
-use Rattle.std.proofs.lemmas.Bool.{lt-ltb, leb-true, ltb-true, ltb-false, eqb-false, ne_eqb, and_from, and_parts, and_cases, cases_lt, cond-true, cond-false}
+use Rattle.std.proofs.lemmas.Bool.{lt-ltb, leb-true, ltb-true, ne_eqb, and_from, and_parts, cases_lt, cond-true, cond-false}
+use Rattle.std.proofs.lemmas.Bool.Decides.{nat_tests}
 use Rattle.vector.specs.Format.{kind_of, payload_of}
 use Rattle.vector.specs.Vectors.{zeros}
 use Rattle.work.specs.Kinds.{Kind, fit_payloads}
@@ -76,11 +77,7 @@ set_behind front d more place =
     ∙ ap (λ xs. xs ++ replicate more 0) (append_assoc front zs (place ∷ []))
 
 not_past : (o : Origin) (e : Entry) → is_past_start o e ≡ false → e.chip ≡ o.chip → e.place ≤ o.start
-not_past o e own here = by_part (and_cases (eqb e.chip o.chip) (ltb o.start e.place) own)
-  where
-    by_part : (eqb e.chip o.chip ≡ false) ⊎ (ltb o.start e.place ≡ false) → e.place ≤ o.start
-    by_part (inl apart) = absurd (eqb-false e.chip o.chip apart here)
-    by_part (inr near) = ltb-false o.start e.place near
+not_past o e own here = grind (arith, nat_tests)
 
 -- one entry in front of those that are read behind it
 more_entries : (o : Origin) (low d more n w : ℕ) (front ws v : List ℕ) (e : Entry) → EntryRead o low w e → e.chip ≡ low + d → low + (d + suc more) ≡ 8 → Entries o (suc e.chip) more n (front ++ (replicate d 0 ++ e.place ∷ [])) ws v → Entries o low (d + suc more) (suc n) front (w ∷ ws) v
