@@ -161,14 +161,10 @@ sound_from : (o : Origin) (chip : ℕ) (ps : List ℕ) → chip + length ps ≡ 
 sound_from o chip [] eight fit there own = tt
 sound_from o chip (p ∷ ps) eight fit there own =
     let parts = and_parts (ltb p 67108864) (fit_places ps) fit in
-    let present : 0 < p → chip < o.chips = λ some. not_missing some (cases_lt chip o.chips) in (
+    let present : 0 < p → chip < o.chips = λ some. grind (arith, there 0) in (
       (ltb-true p 67108864 parts.0, omega arith, present, λ here. own 0 (omega arith)),
       sound_from o (suc chip) ps (omega arith) parts.1 (λ k h. there (suc k) (omega arith)) (λ k h. own (suc k) (omega arith)),
     )
-  where
-    not_missing : 0 < p → (chip < o.chips) ⊎ (o.chips ≤ chip) → chip < o.chips
-    not_missing some (inl h) = h
-    not_missing some (inr h) = absurd (omega (arith, there 0 (omega arith)))
 
 sound_vector : (o : Origin) (v b : List ℕ) → Writable v b → Placed o v → Sound o 0 v
 sound_vector o v b writable placed =

@@ -1,9 +1,9 @@
 -- What is read as a record are the words that the writer gives for it.
-use Rattle.std.proofs.Common.{◌≡◌, ℕ, zero, suc, ◌+◌, ◌-◌, ◌*◌, ◌/◌, ◌%◌, ◌<◌, ◌≤◌, true, false, eqb, ltb, leb, ◌⊎◌, List, [], ◌∷◌, ◌++◌, map, length, get_or, take, drop, set, replicate, Some, None, Ok, Err, Result, sym, refl, ap, ◌∙◌, subst, inl, inr, add-zero, arith}
+use Rattle.std.proofs.Common.{◌≡◌, ℕ, zero, suc, ◌+◌, ◌-◌, ◌*◌, ◌/◌, ◌%◌, ◌<◌, ◌≤◌, true, false, eqb, ltb, leb, List, [], ◌∷◌, ◌++◌, map, length, get_or, take, drop, set, replicate, Some, None, Ok, Err, Result, sym, refl, ap, ◌∙◌, subst, add-zero, arith}
 use Rattle.std.proofs.Math.Seq.{take-add}
 use Rattle.std.proofs.lemmas.Nat.{div-add-mod'}
 use Rattle.std.proofs.lemmas.List.{append-nil, append_assoc, length-append, length-map, length-replicate, set_at, length-take-le, replicate-append-replicate, drop-drop}
-use Rattle.std.proofs.lemmas.Bool.{lt-ltb, leb-true, ltb-true, ne_eqb, and_from, and_parts, cases_lt, cond-true, cond-false}
+use Rattle.std.proofs.lemmas.Bool.{lt-ltb, leb-true, ltb-true, ne_eqb, and_from, and_parts, cond-true, cond-false}
 use Rattle.std.proofs.lemmas.Bool.Decides.{nat_tests}
 use Rattle.vector.specs.Format.{kind_of, payload_of}
 use Rattle.vector.specs.Vectors.{zeros}
@@ -199,11 +199,7 @@ sound_fits o chip (p ∷ ps) sound = and_from (ltb p 67108864) (fit_places ps) (
 
 sound_there : (o : Origin) (chip : ℕ) (ps : List ℕ) → Sound o chip ps → (k : ℕ) → o.chips ≤ chip + k → get_or ps k 0 ≡ 0
 sound_there o chip [] sound k h = refl
-sound_there o chip (p ∷ ps) sound zero h = none (cases_lt 0 p)
-  where
-    none : (0 < p) ⊎ (p ≤ 0) → p ≡ 0
-    none (inl some) = absurd (omega (arith, sound.0.2 some))
-    none (inr e) = omega arith
+sound_there o chip (p ∷ ps) sound zero h = grind (arith, sound.0.2)
 sound_there o chip (p ∷ ps) sound (suc k) h = sound_there o (suc chip) ps sound.1 k (omega arith)
 
 sound_own : (o : Origin) (chip : ℕ) (ps : List ℕ) → Sound o chip ps → (k : ℕ) → chip + k ≡ o.chip → get_or ps k 0 ≤ o.start
