@@ -3,7 +3,8 @@ use Rattle.std.proofs.Common.{◌≡◌, ℕ, zero, suc, ◌+◌, ◌-◌, ◌*�
 use Rattle.std.proofs.Math.Seq.{take-append-add}
 use Rattle.std.proofs.lemmas.List.{append-nil, append_assoc, length-append, length_push, length-map, set_at, take-append-le, drop_at}
 use Rattle.std.proofs.lemmas.Nat.{div-mul-add, mod-mul-add}
-use Rattle.std.proofs.lemmas.Bool.{lt-ltb, le-ltb, le-leb, eq-eqb, ne_eqb, ltb-true, eqb-true, eqb-false, and_from, and_parts, and_left, and_right, cases_eq, cases_lt, cond-true, cond-false, cond_both}
+use Rattle.std.proofs.lemmas.Bool.{lt-ltb, le-ltb, le-leb, eq-eqb, ltb-true, eqb-true, eqb-false, and_from, and_parts, cases_lt, cond-true, cond-false, cond_both}
+use Rattle.std.proofs.lemmas.Bool.Decides.{nat_tests}
 use Rattle.vector.specs.Format.{kind_of, payload_of}
 use Rattle.vector.specs.Vectors.{zeros}
 use Rattle.work.specs.Kinds.{Kind, WellFormed, fit_payloads}
@@ -50,11 +51,7 @@ entry_is chip place few near =
     ap (λ x. of x (payload_of word % 67108864)) at-chip ∙ ap (of chip) at_place
 
 not_past : (o : Origin) (chip place : ℕ) → (chip ≡ o.chip → place ≤ o.start) → is_past_start o (record { chip = chip; place = place }) ≡ false
-not_past o chip place own = by_chip (cases_eq chip o.chip)
-  where
-    by_chip : (chip ≡ o.chip) ⊎ (chip ≡ o.chip → ⊥) → is_past_start o (record { chip = chip; place = place }) ≡ false
-    by_chip (inl here) = and_right (eqb chip o.chip) (ltb o.start place) (le-ltb o.start place (own here))
-    by_chip (inr apart) = and_left (eqb chip o.chip) (ltb o.start place) (ne_eqb chip o.chip apart)
+not_past o chip place own = grind (arith, nat_tests)
 
 pub entry_back : (o : Origin) (low chip place : ℕ) → low ≤ chip → chip < o.chips → chip < 8 → 0 < place → place < 67108864 → (chip ≡ o.chip → place ≤ o.start) → entry_of o low (entry_word chip place) ≡ Ok (record { chip = chip; place = place })
 entry_back o low chip place rises there few some near own =
@@ -164,14 +161,10 @@ sound_from : (o : Origin) (chip : ℕ) (ps : List ℕ) → chip + length ps ≡ 
 sound_from o chip [] eight fit there own = tt
 sound_from o chip (p ∷ ps) eight fit there own =
     let parts = and_parts (ltb p 67108864) (fit_places ps) fit in
-    let present : 0 < p → chip < o.chips = λ some. not_missing some (cases_lt chip o.chips) in (
+    let present : 0 < p → chip < o.chips = λ some. grind (arith, there 0) in (
       (ltb-true p 67108864 parts.0, omega arith, present, λ here. own 0 (omega arith)),
       sound_from o (suc chip) ps (omega arith) parts.1 (λ k h. there (suc k) (omega arith)) (λ k h. own (suc k) (omega arith)),
     )
-  where
-    not_missing : 0 < p → (chip < o.chips) ⊎ (o.chips ≤ chip) → chip < o.chips
-    not_missing some (inl h) = h
-    not_missing some (inr h) = absurd (omega (arith, there 0 (omega arith)))
 
 sound_vector : (o : Origin) (v b : List ℕ) → Writable v b → Placed o v → Sound o 0 v
 sound_vector o v b writable placed =

@@ -1,43 +1,27 @@
 -- The words of a record, one more at a time.
-use Rattle.std.proofs.Common.{◌≡◌, ℕ, zero, suc, ◌+◌, ◌<◌, ◌≤◌, Bool, true, false, cond, not, eqb, ltb, List, [], ◌∷◌, ◌++◌, length, get_or, take, sym, refl, ap, ◌∙◌, add-zero, arith}
+use Rattle.std.proofs.Common.{◌≡◌, ℕ, zero, suc, ◌+◌, ◌<◌, ◌≤◌, true, not, eqb, ltb, List, [], ◌∷◌, ◌++◌, length, get_or, take, sym, refl, ap, ◌∙◌, add-zero, arith}
 use Rattle.std.specs.List.{count_by, filter}
-use Rattle.std.proofs.lemmas.List.Sums.{length-filter}
+use Rattle.std.proofs.lemmas.List.Sums.{length-filter, count_by-le-length}
 use Rattle.std.proofs.lemmas.List.{append_assoc, length-take-le, take_more}
 use Rattle.std.proofs.lemmas.Bool.{ltb-true, and_parts}
+use Rattle.std.proofs.lemmas.Bool.Decides.{nat_tests}
 use Rattle.work.specs.Kinds.{fit_payloads}
-use Rattle.logs.specs.Words.{entry_word, entry_words}
-
--- an entry that is 0 has no word: a list with or without one more element in front
-cond_append : (b : Bool) (w : ℕ) (xs ys zs : List ℕ) → zs ≡ xs ++ ys → cond b zs (w ∷ zs) ≡ cond b xs (w ∷ xs) ++ ys
-cond_append true w xs ys zs e = e
-cond_append false w xs ys zs e = ap (λ ws. w ∷ ws) e
-
-cond_length : (b : Bool) (w n : ℕ) (xs : List ℕ) → length xs ≤ n → length (cond b xs (w ∷ xs)) ≤ suc n
-cond_length true w n xs h = omega arith
-cond_length false w n xs h = omega arith
+use Rattle.logs.specs.Words.{entry_words}
 
 pub entry_words_append : (chip : ℕ) (xs ys : List ℕ) → entry_words chip (xs ++ ys) ≡ entry_words chip xs ++ entry_words (chip + length xs) ys
 entry_words_append chip [] ys = ap (λ k. entry_words k ys) (sym (add-zero chip))
-entry_words_append chip (x ∷ xs) ys =
-    let behind = λ (k : ℕ). entry_words (suc chip) xs ++ entry_words k ys in
-    cond_append (eqb x 0) (entry_word chip x) (entry_words (suc chip) xs) (entry_words (chip + length (x ∷ xs)) ys) _
-    (entry_words_append (suc chip) xs ys ∙ ap behind (omega arith))
-
-pub length_entry_words : (chip : ℕ) (v : List ℕ) → length (entry_words chip v) ≤ length v
-length_entry_words chip [] = omega arith
-length_entry_words chip (x ∷ v) = cond_length (eqb x 0) (entry_word chip x) (length v) (entry_words (suc chip) v) (length_entry_words (suc chip) v)
+entry_words_append chip (x ∷ xs) ys = grind (arith, nat_tests, entry_words_append (suc chip) xs ys)
 
 -- a vector has a word for each place that is not 0
 words_of_places : (chip : ℕ) (v : List ℕ) → length (entry_words chip v) ≡ length (filter (λ place. not (eqb place 0)) v)
 words_of_places chip [] = refl
-words_of_places chip (place ∷ v) = by_test (eqb place 0) (words_of_places (suc chip) v)
-  where
-    by_test : (b : Bool) → length (entry_words (suc chip) v) ≡ length (filter (λ p. not (eqb p 0)) v) → length (cond b (entry_words (suc chip) v) (entry_word chip place ∷ entry_words (suc chip) v)) ≡ length (cond (not b) (place ∷ filter (λ p. not (eqb p 0)) v) (filter (λ p. not (eqb p 0)) v))
-    by_test true h = h
-    by_test false h = ap suc h
+words_of_places chip (place ∷ v) = grind (arith, nat_tests, words_of_places (suc chip) v)
 
 pub entry_words_counted : (chip : ℕ) (v : List ℕ) → length (entry_words chip v) ≡ count_by (λ place. not (eqb place 0)) v
 entry_words_counted chip v = words_of_places chip v ∙ length-filter (λ place. not (eqb place 0)) v
+
+pub length_entry_words : (chip : ℕ) (v : List ℕ) → length (entry_words chip v) ≤ length v
+length_entry_words chip v = omega (arith, entry_words_counted chip v, count_by-le-length (λ place. not (eqb place 0)) v)
 
 -- a vector's words up to one more chip
 pub entry_words_next : (v : List ℕ) (i : ℕ) → i < length v → entry_words 0 (take (i + 1) v) ≡ entry_words 0 (take i v) ++ entry_words i (get_or v i 0 ∷ [])

@@ -1,9 +1,10 @@
 -- What is read as a record are the words that the writer gives for it.
-use Rattle.std.proofs.Common.{◌≡◌, ℕ, zero, suc, ◌+◌, ◌-◌, ◌*◌, ◌/◌, ◌%◌, ◌<◌, ◌≤◌, true, false, eqb, ltb, leb, ◌⊎◌, List, [], ◌∷◌, ◌++◌, map, length, get_or, take, drop, set, replicate, Some, None, Ok, Err, Result, sym, refl, ap, ◌∙◌, subst, inl, inr, add-zero, arith}
+use Rattle.std.proofs.Common.{◌≡◌, ℕ, zero, suc, ◌+◌, ◌-◌, ◌*◌, ◌/◌, ◌%◌, ◌<◌, ◌≤◌, true, false, eqb, ltb, leb, List, [], ◌∷◌, ◌++◌, map, length, get_or, take, drop, set, replicate, Some, None, Ok, Err, Result, sym, refl, ap, ◌∙◌, subst, add-zero, arith}
 use Rattle.std.proofs.Math.Seq.{take-add}
 use Rattle.std.proofs.lemmas.Nat.{div-add-mod'}
 use Rattle.std.proofs.lemmas.List.{append-nil, append_assoc, length-append, length-map, length-replicate, set_at, length-take-le, replicate-append-replicate, drop-drop}
-use Rattle.std.proofs.lemmas.Bool.{lt-ltb, leb-true, ltb-true, ltb-false, eqb-false, ne_eqb, and_from, and_parts, and_cases, cases_lt, cond-true, cond-false}
+use Rattle.std.proofs.lemmas.Bool.{lt-ltb, leb-true, ltb-true, ne_eqb, and_from, and_parts, cond-true, cond-false}
+use Rattle.std.proofs.lemmas.Bool.Decides.{nat_tests}
 use Rattle.vector.specs.Format.{kind_of, payload_of}
 use Rattle.vector.specs.Vectors.{zeros}
 use Rattle.work.specs.Kinds.{Kind, fit_payloads}
@@ -76,11 +77,7 @@ set_behind front d more place =
     ∙ ap (λ xs. xs ++ replicate more 0) (append_assoc front zs (place ∷ []))
 
 not_past : (o : Origin) (e : Entry) → is_past_start o e ≡ false → e.chip ≡ o.chip → e.place ≤ o.start
-not_past o e own here = by_part (and_cases (eqb e.chip o.chip) (ltb o.start e.place) own)
-  where
-    by_part : (eqb e.chip o.chip ≡ false) ⊎ (ltb o.start e.place ≡ false) → e.place ≤ o.start
-    by_part (inl apart) = absurd (eqb-false e.chip o.chip apart here)
-    by_part (inr near) = ltb-false o.start e.place near
+not_past o e own here = grind (arith, nat_tests)
 
 -- one entry in front of those that are read behind it
 more_entries : (o : Origin) (low d more n w : ℕ) (front ws v : List ℕ) (e : Entry) → EntryRead o low w e → e.chip ≡ low + d → low + (d + suc more) ≡ 8 → Entries o (suc e.chip) more n (front ++ (replicate d 0 ++ e.place ∷ [])) ws v → Entries o low (d + suc more) (suc n) front (w ∷ ws) v
@@ -202,11 +199,7 @@ sound_fits o chip (p ∷ ps) sound = and_from (ltb p 67108864) (fit_places ps) (
 
 sound_there : (o : Origin) (chip : ℕ) (ps : List ℕ) → Sound o chip ps → (k : ℕ) → o.chips ≤ chip + k → get_or ps k 0 ≡ 0
 sound_there o chip [] sound k h = refl
-sound_there o chip (p ∷ ps) sound zero h = none (cases_lt 0 p)
-  where
-    none : (0 < p) ⊎ (p ≤ 0) → p ≡ 0
-    none (inl some) = absurd (omega (arith, sound.0.2 some))
-    none (inr e) = omega arith
+sound_there o chip (p ∷ ps) sound zero h = grind (arith, sound.0.2)
 sound_there o chip (p ∷ ps) sound (suc k) h = sound_there o (suc chip) ps sound.1 k (omega arith)
 
 sound_own : (o : Origin) (chip : ℕ) (ps : List ℕ) → Sound o chip ps → (k : ℕ) → chip + k ≡ o.chip → get_or ps k 0 ≤ o.start
