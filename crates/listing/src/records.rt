@@ -10,7 +10,8 @@ use logs::record::{Origin, Record};
 use std::alloc::{AllocError, Global};
 use std::fmt;
 
-// How a log is read: its kind of work, the number of cells, and its chip among the chips of a unit.
+// How a log is read: its kind of work, the number of cells, and its chip among the chips of a unit. The chips stand here and
+// not in an `Origin`, which names a start too and is made anew for each record.
 #[derive(Clone, Copy, PartialEq, Eq, Debug)]
 pub struct Reading {
     pub kind: Chosen,

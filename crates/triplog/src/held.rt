@@ -71,7 +71,8 @@ fn joined<C: Staged>(first: C, second: C) -> Result<OneOrTwo<C>, Unpaired<C, C>>
     Pair::new(first, second).map(Either::Right)
 }
 
-// A chip, or a pair of such chips, behind a box, since a value of that type is large.
+// A chip, or a pair of such chips, behind a box, since a value of that type is large. Its functions match where a chip has to be
+// given back: a chip is no value that a `map_err` could let go.
 pub struct Held<C: Joins> {
     chip: Box<OneOrTwo<C>>,
 }
