@@ -6,7 +6,7 @@ ghost use Rattle.std.proofs.Common.{rules};
 
 use crate::chip::Chip;
 use crate::refusal::Refusal;
-use either::Either;
+use either::{Either, for_both};
 
 impl<A: Chip, B: Chip> Chip for Either<A, B> {
     ghost accepted = { either A.Chip.accepted B.Chip.accepted };
@@ -32,38 +32,23 @@ impl<A: Chip, B: Chip> Chip for Either<A, B> {
     ghost gapless = { Prim.search rules };
 
     fn capacity(&self) -> u32 {
-        match self {
-            Either::Left(chip) => chip.capacity(),
-            Either::Right(chip) => chip.capacity(),
-        }
+        for_both!(self, chip => chip.capacity())
     }
 
     fn count(&self) -> u32 {
-        match self {
-            Either::Left(chip) => chip.count(),
-            Either::Right(chip) => chip.count(),
-        }
+        for_both!(self, chip => chip.count())
     }
 
     fn read_word(&self, place: u32) -> Result<u32, Refusal> {
-        match self {
-            Either::Left(chip) => chip.read_word(place),
-            Either::Right(chip) => chip.read_word(place),
-        }
+        for_both!(self, chip => chip.read_word(place))
     }
 
     fn append(&mut self, word: u32) -> Result<(), Refusal> {
-        match self {
-            Either::Left(chip) => chip.append(word),
-            Either::Right(chip) => chip.append(word),
-        }
+        for_both!(self, chip => chip.append(word))
     }
 
     fn settle(&mut self) {
-        match self {
-            Either::Left(chip) => chip.settle(),
-            Either::Right(chip) => chip.settle(),
-        }
+        for_both!(self, chip => chip.settle())
     }
 
     // Matches, since no proof is made for a `map` by a variant of this type: its other parameter is not named there.

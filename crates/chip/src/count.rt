@@ -111,6 +111,7 @@ impl<M: Memory> Chip for CountChip<M> {
     // Every word is settled as soon as its number is written.
     fn settle(&mut self) {}
 
+    // A match: a closure of `map_err` is proved alone, and nothing says there that no mount is refused.
     fn cut(self) -> Result<CountChip<M>, CountChip<M>> {
         let CountChip { memory } = self;
         match CountChip::mount(memory) {

@@ -153,6 +153,7 @@ impl<M: Memory> Chip for PageChip<M> {
         self.waiting.clear();
     }
 
+    // A match: a closure of `map_err` is proved alone, and nothing says there that no mount is refused.
     fn cut(self) -> Result<PageChip<M>, PageChip<M>> {
         let PageChip {
             memory,

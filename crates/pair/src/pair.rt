@@ -152,6 +152,7 @@ impl<A: Chip, B: Chip> Chip for Pair<A, B> {
         self.second.settle();
     }
 
+    // Matches: a closure of `map_err` is proved alone, and nothing says there that no chip is refused.
     fn cut(self) -> Result<Pair<A, B>, Pair<A, B>> {
         let Pair { first, second } = self;
         let first = match first.cut() {

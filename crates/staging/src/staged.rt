@@ -12,7 +12,7 @@ use chip::chip::Chip;
 use chip::count::CountChip;
 use chip::page::PageChip;
 use chip::refusal::Unmounted;
-use either::Either;
+use either::{Either, for_both};
 use pair::pair::{Pair, Unpaired};
 use std::alloc::Global;
 
@@ -190,24 +190,15 @@ impl<A: Staged, B: Staged> Staged for Either<A, B> {
     ghost finds = { either A.Staged.finds B.Staged.finds };
 
     fn memories(&self) -> usize {
-        match self {
-            Either::Left(chip) => chip.memories(),
-            Either::Right(chip) => chip.memories(),
-        }
+        for_both!(self, chip => chip.memories())
     }
 
     fn note_stores(&self, out: &mut Vec<usize>) -> Result<(), StageFault> {
-        match self {
-            Either::Left(chip) => chip.note_stores(out),
-            Either::Right(chip) => chip.note_stores(out),
-        }
+        for_both!(self, chip => chip.note_stores(out))
     }
 
     fn copy_images(&self, heap: Global, out: &mut Vec<Vec<u32>>) -> Result<(), StageFault> {
-        match self {
-            Either::Left(chip) => chip.copy_images(heap, out),
-            Either::Right(chip) => chip.copy_images(heap, out),
-        }
+        for_both!(self, chip => chip.copy_images(heap, out))
     }
 
     fn remounted(&self, heap: Global, counts: &[usize]) -> Result<Either<A, B>, StageFault> {
@@ -218,9 +209,6 @@ impl<A: Staged, B: Staged> Staged for Either<A, B> {
     }
 
     fn discard(self) {
-        match self {
-            Either::Left(chip) => chip.discard(),
-            Either::Right(chip) => chip.discard(),
-        }
+        for_both!(self, chip => chip.discard())
     }
 }
