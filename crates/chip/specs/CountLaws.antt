@@ -1,7 +1,7 @@
 -- The count chip's words, and what its two stores leave.
-use Rattle.std.specs.Prelude.{◌≡◌, ℕ, suc, ◌+◌, ◌<◌, ◌≤◌, true, ◌&&◌, List, [], ◌∷◌, ◌++◌, length, take, nat_lt, slice_set}
+use Rattle.std.specs.Prelude.{◌≡◌, ℕ, suc, ◌+◌, ◌<◌, ◌≤◌, true, ◌&&◌, List, [], ◌∷◌, ◌++◌, length, take, nat_lt, slice_set, get_or, drop, slice_index, slice_index_or}
 use Rattle.std.proofs.Common.{sym, ap, subst, ◌∙◌, arith, add-one}
-use Rattle.std.proofs.lemmas.List.{append-nil, length-take, length-drop, length-set, take_more_set, take-set}
+use Rattle.std.proofs.lemmas.List.{append-nil, length-take, length-drop, length-set, take_more_set, take-set, get_or-take, get_or-drop, get_or_default}
 use Rattle.std.proofs.lemmas.Bool.{and_parts, and_from, ltb-true, lt-ltb}
 use Rattle.chip.specs.Cut.{Kept}
 use Rattle.chip.specs.Count.{count_room, count_of, count_words, count_sound}
@@ -31,6 +31,11 @@ module _ (ws : List ℕ) (sound : count_sound ws ≡ true) where
   pub count_keeps : Kept (count_words ws) (count_of ws) (count_words ws)
   count_keeps =
       kept_front (count_words ws) [] (count_words ws) (count_of ws) (sym (append-nil (count_words ws))) (omega (arith, length_counted))
+
+  pub read_counted : (place : ℕ) → place < count_of ws → slice_index (count_words ws) place ≡ slice_index_or ws (place + 1) 4294967295
+  read_counted place below =
+      let within = (counted_sound ws sound).2 in
+      get_or-take (count_of ws) (drop 1 ws) place 0 below ∙ get_or-drop 1 ws place 0 ∙ get_or_default ws (1 + place) 0 4294967295 (omega (arith, within)) ∙ ap (λ k. get_or ws k 4294967295) (omega arith)
 
 -- what the two stores of an Append leave, in their order
 pub record Appended (ws first second : List ℕ) (w : ℕ) : Type 0 where

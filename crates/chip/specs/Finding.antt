@@ -1,10 +1,10 @@
 -- What a mount of a page chip finds.
-use Rattle.std.specs.Prelude.{◌≡◌, ℕ, zero, suc, ◌+◌, ◌-◌, ◌<◌, ◌≤◌, Bool, true, false, cond, not, ◌&&◌, List, [], ◌∷◌, ◌++◌, map, length, take, drop, set, Some, ◌==◌, ◌≢◌, slice_index_or, slice_set, unwrap_or, refl}
+use Rattle.std.specs.Prelude.{◌≡◌, ℕ, zero, suc, ◌+◌, ◌-◌, ◌<◌, ◌≤◌, Bool, true, false, cond, not, ◌&&◌, List, [], ◌∷◌, ◌++◌, map, length, take, drop, set, Some, ◌==◌, ◌≢◌, slice_index_or, slice_set, unwrap_or, refl, get_or}
 use Rattle.std.proofs.Common.{sym, ap, ◌∙◌, arith, inr, ⊎_elim, add-one}
 use Rattle.std.specs.List.{AllByRecursion, find, list_all, range_with_len}
 use Rattle.std.proofs.ByRecursion.{All-weaker}
 use Rattle.std.proofs.lemmas.List.{append-nil, append_assoc, length-set, length_push, take_at, at_drop_more, at_drop_all}
-use Rattle.std.proofs.lemmas.Bool.{and_parts, and_from, not-true, ne_eqb, cases_Bool}
+use Rattle.std.proofs.lemmas.Bool.{and_parts, and_from, not-true, ne_eqb, cases_Bool, eq-eqb}
 use Rattle.chip.specs.Cut.{Kept, Gapless}
 use Rattle.chip.specs.Page.{page_found, all_blank, none_blank, blank_behind, written, writes}
 
@@ -112,6 +112,24 @@ pub all_blank_places : (ws : List ℕ) (n i : ℕ) → length ws - i ≡ n → l
 all_blank_places ws zero i e = sym (at_drop_all all_blank ws i (omega arith))
 all_blank_places ws (suc n) i e =
     ap (λ b. blank_at ws i && b) (all_blank_places ws n (i + 1) (omega arith)) ∙ sym (at_drop_more all_blank ws i 4294967295 (omega arith))
+
+-- one place on
+module _ (ws : List ℕ) (i : ℕ) (within : i < length ws) where
+  pub found_at_blank : get_or ws i 4294967295 ≡ 4294967295 → page_found (drop i ws) ≡ []
+  found_at_blank blank =
+      at_drop_more page_found ws i 4294967295 within ∙ ap (λ b. cond b [] (slice_index_or ws i 4294967295 ∷ page_found (drop (i + 1) ws))) (eq-eqb (slice_index_or ws i 4294967295) 4294967295 blank)
+
+  pub found_past_word : (slice_index_or ws i 4294967295 ≢ 4294967295) → length (page_found (drop i ws)) ≡ suc (length (page_found (drop (i + 1) ws)))
+  found_past_word word =
+      ap length (at_drop_more page_found ws i 4294967295 within ∙ ap (λ b. cond b [] (slice_index_or ws i 4294967295 ∷ page_found (drop (i + 1) ws))) (ne_eqb (slice_index_or ws i 4294967295) 4294967295 word))
+
+  pub blank_past_blank : get_or ws i 4294967295 ≡ 4294967295 → all_blank (drop i ws) ≡ all_blank (drop (i + 1) ws)
+  blank_past_blank blank =
+      at_drop_more all_blank ws i 4294967295 within ∙ ap (λ b. b && all_blank (drop (i + 1) ws)) (eq-eqb (slice_index_or ws i 4294967295) 4294967295 blank)
+
+  pub blank_at_word : (slice_index_or ws i 4294967295 ≢ 4294967295) → all_blank (drop i ws) ≡ false
+  blank_at_word word =
+      at_drop_more all_blank ws i 4294967295 within ∙ ap (λ b. b && all_blank (drop (i + 1) ws)) (ne_eqb (slice_index_or ws i 4294967295) 4294967295 word)
 
 behind_by : (w : ℕ) (ws : List ℕ) → blank_behind ws ≡ all_blank (drop (length (page_found ws)) ws) → (b : Bool) → is_blank w ≡ b → cond b (all_blank ws) (blank_behind ws) ≡ all_blank (drop (length (cond b [] (w ∷ page_found ws))) (w ∷ ws))
 behind_by w ws h true e = sym (ap (λ b. b && all_blank ws) e)

@@ -1,12 +1,12 @@
 -- The page chip's words, its mount, and what it leaves at a cut.
-use Rattle.std.specs.Prelude.{◌≡◌, ℕ, ◌+◌, ◌<◌, ◌≤◌, true, false, cond, ◌&&◌, List, [], ◌∷◌, ◌++◌, map, length, drop, ◌≢◌, nat_lt, slice_index, slice_index_or, refl}
+use Rattle.std.specs.Prelude.{◌≡◌, ℕ, ◌+◌, ◌<◌, ◌≤◌, true, false, cond, ◌&&◌, List, [], ◌∷◌, ◌++◌, map, length, drop, ◌≢◌, nat_lt, slice_index, slice_index_or, refl, ◌-◌}
 use Rattle.std.proofs.Common.{sym, ap, subst, ◌∙◌, arith}
 use Rattle.std.specs.List.{AllByRecursion}
 use Rattle.std.proofs.ByRecursion.{All-weaker, All-map}
-use Rattle.std.proofs.lemmas.List.{append-nil, append_assoc, length-append, length_push, length-take, get_or-take, get_or_append_left, get_or_default}
+use Rattle.std.proofs.lemmas.List.{append-nil, append_assoc, length-append, length_push, length-take, get_or-take, get_or_append_left, get_or_default, get_or-append_right}
 use Rattle.std.proofs.lemmas.Bool.{and_parts, lt-ltb, le-ltb, ltb-true}
 use Rattle.chip.specs.Cut.{Kept, Gapless}
-use Rattle.chip.specs.Page.{page_words, page_early, page_found, all_blank, none_blank, blank_behind, page_sound, PageIntact, written, writes}
+use Rattle.chip.specs.Page.{PageMounted, page_words, page_early, page_found, all_blank, none_blank, blank_behind, page_sound, PageIntact, written, writes}
 use Rattle.chip.specs.Finding.{kept_front, found_front, behind_is, none_blank_push, Programmed, programmed}
 use Rattle.chip.specs.Writing.{length_written}
 
@@ -37,12 +37,15 @@ module _ (ws : List ℕ) (n : ℕ) (waiting : List ℕ) (intact : PageIntact ws 
   pub page_keeps : Kept (page_words ws waiting) n (page_found ws)
   page_keeps = kept_front (page_found ws) waiting (page_words ws waiting) n refl (omega (arith, intact.counted))
 
-  -- reading a programmed word
+  -- reading a programmed or a waiting word
   pub read_programmed : (place : ℕ) → place < n → slice_index (page_words ws waiting) place ≡ slice_index_or ws place 4294967295
   read_programmed place below =
       let found = ap (λ l. slice_index l place) (found_front ws) in
       let within = found_within ws in
       get_or_append_left (page_found ws) waiting 0 place (omega (arith, intact.counted)) ∙ found ∙ get_or-take (length (page_found ws)) ws place 0 (omega (arith, intact.counted)) ∙ get_or_default ws place 0 4294967295 (omega (arith, intact.counted))
+
+  pub read_waiting : (place : ℕ) → n ≤ place → slice_index (page_words ws waiting) place ≡ slice_index waiting (place - n)
+  read_waiting place above = get_or-append_right (page_found ws) waiting n place 0 (sym intact.counted) above
 
   -- a word is collected
   module _ (w : ℕ) (word : w ≢ 4294967295) (room : n + length waiting < length ws) where
@@ -65,10 +68,16 @@ module _ (ws : List ℕ) (n : ℕ) (some : 0 < length ws) (few : length ws ≤ 1
   pub mount_refused : all_blank (drop n ws) ≡ false → false ≡ page_sound ws
   mount_refused word = sym (behind ∙ word)
 
+  pub mount_accepted : all_blank (drop n ws) ≡ true → true ≡ page_sound ws
+  mount_accepted blank = sym (behind ∙ blank)
+
   pub mount_intact : all_blank (drop n ws) ≡ true → PageIntact ws n []
   mount_intact blank =
       let within = found_within ws in
       record { sound = behind ∙ blank; counted = counted; fits = omega arith; few = omega arith; unblank = refl }
+
+  pub mount_made : all_blank (drop n ws) ≡ true → PageMounted ws n []
+  mount_made blank = record { accepted = append-nil (page_found ws); settled = counted }
 
 -- the words `more` are programmed behind the n words of a memory, which leaves `after`, and no word waits
 pub record PageProgrammed (ws : List ℕ) (n : ℕ) (more after waiting : List ℕ) (end : ℕ) : Type 0 where
@@ -118,6 +127,13 @@ module _ (ws : List ℕ) (n : ℕ) (waiting : List ℕ) (intact : PageIntact ws 
       let fits : n + length more ≤ length ws = omega (arith, ap length same, length_push waiting w) in
       page_programmed ws n more intact.sound intact.counted fits (ap none_blank same ∙ collected_unblank ws n waiting intact w word room) held left end stored none (omega arith)
 
--- with the sixteenth word a page is programmed
+pub settled_words : (ws : List ℕ) (n : ℕ) (waiting : List ℕ) → PageIntact ws n waiting → page_words (written ws n waiting) [] ≡ page_words ws waiting
+settled_words ws n waiting intact =
+    (page_settled ws n waiting intact waiting (written ws n waiting) [] (n + length waiting) refl refl refl refl).words
+
+-- a word more that waits, or a page that is programmed
+pub early_waits : (n : ℕ) (waiting : List ℕ) → length waiting < 15 → page_early n waiting ≡ n
+early_waits n waiting few = ap (λ b. cond b n (n + 16)) (lt-ltb (length waiting) 15 few)
+
 pub early_programs : (n : ℕ) (waiting : List ℕ) → 15 ≤ length waiting → page_early n waiting ≡ n + 16
 early_programs n waiting last = ap (λ b. cond b n (n + 16)) (le-ltb (length waiting) 15 last)

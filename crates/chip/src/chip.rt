@@ -52,7 +52,8 @@ pub trait Chip: Sized {
         ensures all_settled { settled self.new ≡ length (accepted self.old) }
         ensures cut_inside { Moments passes self.old self.new (accepted self.old) (settled self.old) };
 
-    // The power goes between two calls and comes back: the chip is mounted on what it left. No chip is refused.
+    // The power goes between two calls and comes back: the chip is mounted on what it left. A `Result`, since a mount gives
+    // one; no chip is refused.
     fn cut(self) -> Result<Self, Self>
         ensures { MatchResult result (λ c. (accepted c ≡ left self) × (settled c ≡ length (left self)) × (room c ≡ room self)) (λ _. ⊥) };
 

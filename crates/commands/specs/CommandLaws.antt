@@ -5,7 +5,7 @@
 --   after f t x        a cell's value after the effect, from the values of the sender's cell, of a, of b, and of the cell
 --   commands_lawful    the laws that every kind of work has to keep
 --   once_only          a number that is not above its sender's changes nothing, so a command that was run never acts again
-use Rattle.std.specs.Prelude.{◌≡◌, ℕ, suc, ◌+◌, ◌<◌, ◌≤◌, min, Bool, true, false, cond, ◌&&◌, ◌≢◌, ◌⊎◌, List, [], ◌∷◌, length, Ok, ◌==◌, nat_le, nat_lt, slice_index, slice_index_or, slice_set, refl}
+use Rattle.std.specs.Prelude.{◌≡◌, ℕ, suc, ◌+◌, ◌<◌, ◌≤◌, min, Bool, true, false, cond, ◌&&◌, ◌≢◌, ◌⊎◌, List, [], ◌∷◌, length, Ok, ◌==◌, nat_le, nat_lt, slice_index, slice_index_or, slice_set, refl, zero, ◌-◌}
 use Rattle.std.proofs.Common.{inl, inr, sym, ap, subst, ◌∙◌, arith}
 use Rattle.std.specs.List.{AllByRecursion}
 use Rattle.std.proofs.ByRecursion.{All-weaker}
@@ -14,7 +14,7 @@ use Rattle.std.proofs.lemmas.Bool.Decides.{nat_tests}
 use Rattle.std.proofs.lemmas.Grind.{common_steps}
 use Rattle.work.specs.declared.name.Name.{Name}
 use Rattle.work.specs.KindLaws.{payloads_below}
-use Rattle.work.specs.Kinds.{Lawful, Alike, WithinTop, top, rising, rising_from, within, written, writing, reading}
+use Rattle.work.specs.Kinds.{Lawful, Alike, WithinTop, top, rising, rising_from, within, written, writing, reading, nth}
 use Rattle.commands.specs.declared.commands.Command.{Command}
 use Rattle.commands.specs.Commands.{fields, by_operation, is_operation, usable, cells_there, cells_apart, placed, command_names, acted, above_latest, command_effect, command_judged, commands, run_each, OnceOnly}
 
@@ -243,6 +243,13 @@ names_rise cells f h =
     (λ u. grind (arith, nat_tests))
     (λ u. let rest = close_rises (suc f.sender) cells f (omega arith) u in grind (arith, nat_tests))
     (λ u. let rest = latch_rises (suc f.sender) cells f (omega arith) u in grind (arith, nat_tests))
+
+pub latch_name : (f : Command) (x y z : Name) (i : ℕ) → f.operation ≡ 3 → i ≢ 0 → x ≡ reading f.a → y ≡ reading f.b → z ≡ writing f.c
+    → nth (placed x (placed y (z ∷ []))) (i - 1) ≡ nth (command_names f) i
+latch_name f x y z zero o l ex ey ez = absurd (l refl)
+latch_name f x y z (suc i) o l ex ey ez =
+    let back : suc i - 1 ≡ i = omega arith in
+    rw (o, back, ex, ey, ez)
 
 -- and what its effect keeps
 effect_length : (f : Command) (t : List ℕ) → length (command_effect f t) ≡ length t

@@ -29,8 +29,9 @@ pub const SPARE_STEP: u32 = 0x100_0000;
 pub const SENDERS: u32 = 8;
 
 // The fields of a body.
-#[derive(Clone, Copy, PartialEq, Eq, Debug)]
+#[derive(Clone, Copy, PartialEq, Eq, Debug, Default)]
 pub struct Command {
+    // any three bits: a body has fields whatever they say, and `Operation::try_from` reads them
     pub operation: u32,
     pub sender: u32,
     pub number: u32,

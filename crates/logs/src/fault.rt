@@ -44,6 +44,7 @@ impl From<Cause> for u8 {
     }
 }
 
+// By hand, and so the next: clauses name what a `?` makes, and of what a derive writes they cannot.
 impl From<BodyFault> for Cause {
     ghost from_gives = { λ fault r. r ≡ Body fault };
 

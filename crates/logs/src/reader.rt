@@ -8,7 +8,8 @@ ghost use Rattle.logs.specs.Reading.{and_then, of_kind, fault_of, head_of, entry
 use crate::fault::{Cause, RecordFault, Stop};
 use crate::record::{Body, Entry, Head, Origin, Record};
 use vector::format::{BODY_STEP, CHIPS, PAYLOADS_OF_A_BODY, PLACES};
-use vector::word::{Kind, payload};
+use vector::kind::Kind;
+use vector::word::payload;
 use work::kind::Work;
 
 fn fault_of(origin: Origin, place: usize, cause: Cause) -> RecordFault

@@ -27,7 +27,7 @@ pub struct Entry {
 // The payloads of a body.
 pub type Body = ArrayVec<u32, PAYLOADS_OF_A_BODY>;
 
-#[derive(PartialEq, Eq, Debug, Drop)]
+#[derive(Clone, PartialEq, Eq, Debug, Drop)]
 pub struct Record {
     // the place behind its last word
     pub end: usize,

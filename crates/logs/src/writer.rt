@@ -9,7 +9,7 @@ ghost use Rattle.logs.specs.Words.{body_word, entry_words, record_words, fit_pla
 use arrayvec::ArrayVec;
 use thiserror::Error;
 use vector::format::{BODY_STEP, PAYLOADS, PAYLOADS_OF_A_BODY, PLACES, WORDS_OF_A_RECORD};
-use vector::word::Kind;
+use vector::kind::Kind;
 use work::table::payloads_fit;
 
 // The words of one record.

@@ -1,11 +1,15 @@
 -- Two chips as one: words, moments and what is left at a cut.
-use Rattle.std.specs.Prelude.{◌≡◌, ℕ, ◌+◌, ◌<◌, ◌≤◌, List, [], ◌∷◌, ◌++◌, map, length, drop}
+use Rattle.chip.proofs.CallLaws.{read_within}
+use Rattle.chip.specs.declared.refusal.Refusal.TheVariants.{PairTooLarge, FirstNotFull}
+use Rattle.chip.specs.declared.refusal.Refusal.{Refusal}
+use Rattle.chip.specs.Calls.{read_answer}
+use Rattle.std.specs.Prelude.{◌≡◌, ℕ, ◌+◌, ◌<◌, ◌≤◌, List, [], ◌∷◌, ◌++◌, map, length, drop, ◌-◌, Bool, false, cond, ◌&&◌, Some, None, Ok, ◌≢◌, nat_lt, refl}
 use Rattle.std.proofs.Common.{⊎_elim, inl, inr, sym, ap, subst, ◌∙◌, arith}
 use Rattle.std.specs.List.{AllByRecursion}
-use Rattle.std.proofs.lemmas.List.{append-nil, append_assoc, length-append, take_all, take-append-drop, nil_from_length}
-use Rattle.std.proofs.lemmas.Bool.{cases_lt}
+use Rattle.std.proofs.lemmas.List.{append-nil, append_assoc, length-append, take_all, take-append-drop, nil_from_length, get_or_append_left, get_or-append_right}
+use Rattle.std.proofs.lemmas.Bool.{cases_lt, lt-ltb, le-ltb, and_from, and_left, and_right}
 use Rattle.chip.specs.Cut.{Kept, Gapless}
-use Rattle.pair.specs.Pair.{PairOrdered}
+use Rattle.pair.specs.Pair.{pair_refusal, pair_early, PairOrdered}
 use Rattle.chip.specs.Finding.{kept_front}
 
 pub pair_bounded : (a b : List ℕ) (ra rb sa sb : ℕ) → sa ≤ length a → length a ≤ ra → sb ≤ length b → length b ≤ rb → PairOrdered ra rb (length a) (length b) sa → (sa + sb ≤ length (a ++ b)) × (length (a ++ b) ≤ ra + rb) × (ra + rb ≤ 1048576)
@@ -66,3 +70,70 @@ pub gapless_same : (now : List ℕ) (back : List ℕ) (xs : List (List ℕ)) (la
 gapless_same now back [] last all e = ap (λ l. l ++ back) (sym e)
 gapless_same now back (x ∷ xs) last all e =
     (inl (ap (λ l. l ++ back) all.0), subst (λ n. Gapless (n ++ back) (map (λ l. l ++ back) xs) (last ++ back)) (sym all.0) (gapless_same now back xs last all.1 e))
+
+-- one word more
+pub grows_second : (a b : List ℕ) (w : ℕ) → a ++ (b ++ w ∷ []) ≡ (a ++ b) ++ w ∷ []
+grows_second a b w = sym (append_assoc a b (w ∷ []))
+
+pub grows_first : (a b : List ℕ) (w : ℕ) → length b ≤ 0 → (a ++ w ∷ []) ++ b ≡ (a ++ b) ++ w ∷ []
+grows_first a b w none =
+    let empty : b ≡ [] = nil_from_length b (omega arith) in
+    ap (λ l. (a ++ w ∷ []) ++ l) empty ∙ append-nil (a ++ w ∷ []) ∙ ap (λ l. l ++ w ∷ []) (sym (ap (λ l. a ++ l) empty ∙ append-nil a))
+
+-- reading through both
+module _ (a b : List ℕ) (place : ℕ) (there : place < length a + length b) where
+  inside : place < length (a ++ b)
+  inside = omega (arith, length-append a b)
+
+  pub read_first : place < length a → read_answer a place ≡ read_answer (a ++ b) place
+  read_first below =
+      read_within a place below ∙ ap Ok (sym (get_or_append_left a b 0 place below)) ∙ sym (read_within (a ++ b) place inside)
+
+  pub read_second : length a ≤ place → read_answer b (place - length a) ≡ read_answer (a ++ b) place
+  read_second above =
+      read_within b (place - length a) (omega arith) ∙ ap Ok (sym (get_or-append_right a b (length a) place 0 refl above)) ∙ sym (read_within (a ++ b) place inside)
+
+-- what is found is no longer than the words
+pub kept_short : (words : List ℕ) (low : ℕ) (found : List ℕ) → Kept words low found → length found ≤ length words
+kept_short words low found kept =
+    omega (arith, ap length (kept_split words low found kept), length-append found (drop (length found) words))
+
+-- why two chips make no pair
+module _ (ra rb ca cb : ℕ) where
+  pub refused_large : 1048576 < ra + rb → pair_refusal ra rb ca cb ≡ Some PairTooLarge
+  refused_large large = ap (λ t. cond t (Some PairTooLarge) (cond (nat_lt ca ra && nat_lt 0 cb) (Some FirstNotFull) None)) (lt-ltb 1048576 (ra + rb) large)
+
+  pub refused_by_order : ra + rb ≤ 1048576 → pair_refusal ra rb ca cb ≡ cond (nat_lt ca ra && nat_lt 0 cb) (Some FirstNotFull) None
+  refused_by_order small = ap (λ t. cond t (Some PairTooLarge) (cond (nat_lt ca ra && nat_lt 0 cb) (Some FirstNotFull) None)) (le-ltb 1048576 (ra + rb) small)
+
+  pub refused_gap : ra + rb ≤ 1048576 → ca < ra → 0 < cb → pair_refusal ra rb ca cb ≡ Some FirstNotFull
+  refused_gap small gap some = refused_by_order small ∙ ap (λ t. cond t (Some FirstNotFull) None) (and_from (nat_lt ca ra) (nat_lt 0 cb) (lt-ltb ca ra gap) (lt-ltb 0 cb some))
+
+  pub not_refused : ra + rb ≤ 1048576 → (0 < cb → ra ≤ ca) → pair_refusal ra rb ca cb ≡ None
+  not_refused small full =
+      refused_by_order small ∙ ap (λ t. cond t (Some FirstNotFull) None) (⊎_elim (λ some. and_left (nat_lt ca ra) (nat_lt 0 cb) (le-ltb ca ra (full some))) (λ none. and_right (nat_lt ca ra) (nat_lt 0 cb) (le-ltb 0 cb none)) (cases_lt 0 cb))
+
+  pub some_is_not_none : (why : Refusal) → pair_refusal ra rb ca cb ≡ None → pair_refusal ra rb ca cb ≢ Some why
+  some_is_not_none why none some =
+      let zero_one : ◌≡◌ {A = ℕ} 0 1 = cc in
+      omega arith
+
+  pub made_within : pair_refusal ra rb ca cb ≡ None → ra + rb ≤ 1048576
+  made_within none = ⊎_elim (λ large. absurd (some_is_not_none PairTooLarge none (refused_large large))) (λ small. small) (cases_lt 1048576 (ra + rb))
+
+  pub made_full : pair_refusal ra rb ca cb ≡ None → 0 < cb → ra ≤ ca
+  made_full none some = ⊎_elim (λ gap. absurd (some_is_not_none FirstNotFull none (refused_gap (made_within none) gap some))) (λ full. full) (cases_lt ca ra)
+
+-- how many are settled after one more word
+module _ (ra ca cb sa sb ea eb : ℕ) where
+  abbrev choice : Bool → Bool → ℕ
+  choice behind gap = cond behind (sa + eb) (cond gap (ea + sb) (ca + eb))
+
+  pub early_behind : 0 < cb → pair_early ra ca cb sa sb ea eb ≡ sa + eb
+  early_behind some = ap (λ b. choice b (nat_lt ca ra)) (lt-ltb 0 cb some)
+
+  pub early_before : cb ≤ 0 → ca < ra → pair_early ra ca cb sa sb ea eb ≡ ea + sb
+  early_before none gap = ap (λ b. choice b (nat_lt ca ra)) (le-ltb 0 cb none) ∙ ap (choice false) (lt-ltb ca ra gap)
+
+  pub early_first_behind : cb ≤ 0 → ra ≤ ca → pair_early ra ca cb sa sb ea eb ≡ ca + eb
+  early_first_behind none full = ap (λ b. choice b (nat_lt ca ra)) (le-ltb 0 cb none) ∙ ap (choice false) (le-ltb ca ra full)

@@ -32,6 +32,14 @@ impl<T: Drop> From<AllocFailed<T>> for StageFault {
     }
 }
 
+impl From<Refusal> for StageFault {
+    ghost from_gives = { λ e r. r ≡ RefusedBy e };
+
+    fn from(e: Refusal) -> StageFault {
+        StageFault::Refused(e)
+    }
+}
+
 impl<M: Drop> From<Unmounted<M>> for StageFault {
     ghost from_gives = { λ e r. r ≡ RefusedBy e.refusal };
 

@@ -6,7 +6,7 @@ ghost use Rattle.staging.specs.Spread.{made_by, counts_after};
 use std::alloc::{AllocError, Global};
 
 // How many stores each memory has noted after `stores` stores of a call, when it had noted `before` at its
-// start and `after` at its end.
+// start and `after` at its end. They are two lists and no list of pairs, since a chip notes them at two moments.
 pub fn counts_at(
     heap: Global,
     before: &[usize],

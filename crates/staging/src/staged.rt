@@ -1,7 +1,8 @@
 // Chips over traced memories: what a mount finds if the power goes inside a call.
-ghost use Rattle.std.specs.Prelude.{◌≡◌, ℕ, min, List, [], ◌∷◌, ◌++◌, map, length, take, drop, IfOk, vec_items, OnOk, slice_index_or};
-ghost use Rattle.chip.specs.Count.{count_words};
-ghost use Rattle.chip.specs.Page.{page_found};
+ghost use Rattle.std.specs.Prelude.{◌≡◌, ℕ, min, Bool, List, [], ◌∷◌, ◌++◌, map, length, take, drop, is_ok, IfOk, MatchResult, vec_items, OnOk, slice_index_or};
+ghost use Rattle.chip.specs.Count.{count_words, count_sound};
+ghost use Rattle.chip.specs.Page.{page_found, page_sound};
+ghost use Rattle.chip.specs.declared.refusal.Refusal.TheVariants.{UnfitMemory};
 ghost use Rattle.either.specs.Either.{either};
 ghost use Rattle.staging.specs.Below.{held_words, noted_stores, rewound_all};
 ghost use Rattle.staging.specs.declared.traced.Traced.{Traced as TracedMemories};
@@ -12,7 +13,7 @@ use chip::chip::Chip;
 use chip::count::CountChip;
 use chip::page::PageChip;
 use chip::refusal::Unmounted;
-use either::{Either, for_both};
+use either::{Either, for_both, map_both};
 use pair::pair::{Pair, Unpaired};
 use std::alloc::Global;
 
@@ -49,11 +50,15 @@ pub trait Leaf: Chip {
     // The memory below it.
     ghost under: { Self → TracedMemories };
 
-    // The words that a mount of such a chip finds.
+    // Whether a mount of such a chip accepts what a memory holds.
+    ghost sound: { List ℕ → Bool };
+
+    // The words that it finds then.
     ghost found: { List ℕ → List ℕ };
 
     fn on(memory: Traced) -> Result<Self, Unmounted<Traced>>
-        ensures { IfOk result (λ c. (Self.Chip.accepted c ≡ found (held_words memory)) × (Self.Chip.settled c ≡ length (Self.Chip.accepted c))) };
+        ensures sound { is_ok result ≡ sound (held_words memory) }
+        ensures chip { MatchResult result (λ c. (under c ≡ memory) × (Self.Chip.accepted c ≡ found (held_words memory)) × (Self.Chip.settled c ≡ length (Self.Chip.accepted c))) (λ e. (e.memory ≡ memory) × (e.refusal ≡ UnfitMemory)) };
 
     fn memory(&self) -> &Traced
         ensures { result.now ≡ under self.now };
@@ -65,6 +70,8 @@ pub trait Leaf: Chip {
 impl Leaf for PageChip<Traced> {
     ghost under = { λ s. s.memory };
 
+    ghost sound = { page_sound };
+
     ghost found = { page_found };
 
     fn on(memory: Traced) -> Result<PageChip<Traced>, Unmounted<Traced>> {
@@ -72,16 +79,18 @@ impl Leaf for PageChip<Traced> {
     }
 
     fn memory(&self) -> &Traced {
-        self.memory()
+        PageChip::memory(self)
     }
 
     fn into_memory(self) -> Traced {
-        self.into_memory()
+        PageChip::into_memory(self)
     }
 }
 
 impl Leaf for CountChip<Traced> {
     ghost under = { λ s. s.memory };
+
+    ghost sound = { count_sound };
 
     ghost found = { count_words };
 
@@ -90,11 +99,11 @@ impl Leaf for CountChip<Traced> {
     }
 
     fn memory(&self) -> &Traced {
-        self.memory()
+        CountChip::memory(self)
     }
 
     fn into_memory(self) -> Traced {
-        self.into_memory()
+        CountChip::into_memory(self)
     }
 }
 
@@ -202,10 +211,7 @@ impl<A: Staged, B: Staged> Staged for Either<A, B> {
     }
 
     fn remounted(&self, heap: Global, counts: &[usize]) -> Result<Either<A, B>, StageFault> {
-        match self {
-            Either::Left(chip) => Ok(Either::Left(chip.remounted(heap, counts)?)),
-            Either::Right(chip) => Ok(Either::Right(chip.remounted(heap, counts)?)),
-        }
+        Ok(map_both!(self, chip => chip.remounted(heap, counts)?))
     }
 
     fn discard(self) {

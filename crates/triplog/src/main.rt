@@ -45,7 +45,7 @@ fn run_file<C: Joins>(rt: &HostRuntime, shelf: &mut Shelf<C>, file: &str) -> Res
     Ok(())
 }
 
-// A loop beside that of a file, since lines of a text cannot fail and those of the input can.
+// Beside the lines of a file, since those of a text cannot fail and those of the input can.
 fn run_input<C: Joins>(rt: &HostRuntime, shelf: &mut Shelf<C>) -> Result<(), Stop> {
     for (number, line) in (1u64..).zip(rt.stdin().lines(rt.alloc())) {
         let line = line.map_err(|error| Stop::InLine(number, Cause::Input(error)))?;

@@ -2,8 +2,8 @@
 --   number_of_kind kind    the number that stands for it in a word
 --   kind_in word           the kind whose number the word has, if there is one
 use Rattle.std.specs.Prelude.{ℕ, cond, ◌==◌, Option, Some, None}
-use Rattle.vector.specs.declared.word.Kind.{Kind}
-use Rattle.vector.specs.declared.word.Kind.TheVariants.{Head, Entry, Body}
+use Rattle.vector.specs.declared.kind.Kind.{Kind}
+use Rattle.vector.specs.declared.kind.Kind.TheVariants.{Head, Entry, Body}
 use Rattle.vector.specs.Format.{kind_of}
 
 abbrev pub number_of_kind : Kind → ℕ

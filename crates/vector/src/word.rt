@@ -1,43 +1,14 @@
 // A word of a log: a kind in its top three bits and a payload in the other 29.
 ghost use Rattle.std.specs.Prelude.{◌≡◌};
-ghost use Rattle.vector.specs.Format.{payload_of};
-ghost use Rattle.vector.specs.Kinds.{kind_in, number_of_kind};
+ghost use Rattle.vector.specs.Format.{kind_of, payload_of};
 
 use crate::format::PAYLOADS;
 
-// What a word is for.
-#[derive(Clone, Copy, PartialEq, Eq, Debug)]
-pub enum Kind {
-    Head,
-    Entry,
-    Body,
-}
-
-impl Kind {
-    // The kind of a word; none if its number is no kind's, so that the word is unsound.
-    pub fn of(word: u32) -> Option<Kind>
-        ensures { result ≡ kind_in word }
-    {
-        match word / PAYLOADS {
-            0 => Some(Kind::Head),
-            1 => Some(Kind::Entry),
-            2 => Some(Kind::Body),
-            _ => None,
-        }
-    }
-}
-
-// Part of the format: the numbers of the kinds.
-impl From<Kind> for u32 {
-    ghost from_gives = { λ kind n. n ≡ number_of_kind kind };
-
-    fn from(kind: Kind) -> u32 {
-        match kind {
-            Kind::Head => 0,
-            Kind::Entry => 1,
-            Kind::Body => 2,
-        }
-    }
+// The number of a word's kind, whether it is one that words have or not.
+pub fn kind(word: u32) -> u32
+    ensures { result ≡ kind_of word }
+{
+    word / PAYLOADS
 }
 
 pub fn payload(word: u32) -> u32

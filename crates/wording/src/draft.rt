@@ -67,18 +67,6 @@ pub fn read_body(heap: Global, pieces: &[String]) -> Result<Vec<u32>, Misread> {
     }
 }
 
-// What the fields are that a line does not name.
-const UNNAMED: Command = Command {
-    operation: 0,
-    sender: 0,
-    number: 0,
-    a: 0,
-    b: 0,
-    c: 0,
-    spare: 0,
-    amount: 0,
-};
-
 fn read_command(heap: Global, verb: &str, pieces: &[String]) -> Result<Command, Misread> {
     match verb {
         "add" => {
@@ -89,7 +77,7 @@ fn read_command(heap: Global, verb: &str, pieces: &[String]) -> Result<Command, 
                 number,
                 a,
                 amount,
-                ..UNNAMED
+                ..Command::default()
             })
         }
         "close" => {
@@ -100,7 +88,7 @@ fn read_command(heap: Global, verb: &str, pieces: &[String]) -> Result<Command, 
                 number,
                 a,
                 b,
-                ..UNNAMED
+                ..Command::default()
             })
         }
         "latch" => {
@@ -115,7 +103,7 @@ fn read_command(heap: Global, verb: &str, pieces: &[String]) -> Result<Command, 
                 b,
                 c,
                 amount,
-                ..UNNAMED
+                ..Command::default()
             })
         }
         _ => Err(Misread::NoBody),

@@ -11,7 +11,7 @@ pub fn words(heap: Global, pieces: &[String]) -> Result<Vec<u32>, Misread> {
 }
 
 // The N numbers that stand where the marks have a name in capitals; all other pieces have to be those of the marks. `form` is what
-// the line should look like.
+// the line should look like: the marks, or more where they are only its end.
 pub fn numbers_at<const N: usize>(
     heap: Global,
     marks: &str,

@@ -1,14 +1,39 @@
 -- What the pairs of a body of values name and do.
-use Rattle.std.specs.Prelude.{◌≡◌, ℕ, zero, suc, ◌*◌, ◌/◌, ◌<◌, ◌≤◌, true, false, ◌&&◌, List, [], ◌∷◌, length, Some, None, Ok, ◌==◌, slice_index, slice_set, refl}
-use Rattle.std.proofs.Common.{sym, ap, ◌∙◌, arith}
-use Rattle.std.proofs.lemmas.List.{length-set, get_or-set_other}
+use Rattle.std.specs.Prelude.{◌≡◌, ℕ, zero, suc, ◌*◌, ◌/◌, ◌<◌, ◌≤◌, true, false, ◌&&◌, List, [], ◌∷◌, length, Some, None, Ok, ◌==◌, slice_index, slice_set, refl, ◌+◌, ◌-◌, take, drop}
+use Rattle.std.proofs.Common.{sym, ap, ◌∙◌, arith, add-one}
+use Rattle.std.proofs.lemmas.List.{length-set, get_or-set_other, take_rest}
 use Rattle.std.proofs.lemmas.Bool.Decides.{nat_tests}
-use Rattle.std.proofs.lemmas.Bool.{and_parts, or_parts}
+use Rattle.std.proofs.lemmas.Bool.{and_parts, or_parts, lt-ltb}
 use Rattle.work.specs.declared.name.Name.{Name}
 use Rattle.work.specs.KindLaws.{ok_then, payloads_below}
 use Rattle.work.specs.TableLaws.{set_same, set_within_top}
-use Rattle.work.specs.Kinds.{Lawful, nth, fit_payloads, within, rising, names_writing, written, writing, Alike, WithinTop}
+use Rattle.work.specs.Kinds.{Lawful, nth, fit_payloads, within, rising, names_writing, written, writing, Alike, WithinTop, rising_from}
 use Rattle.work.specs.Values.{values, values_names, values_effect, values_judged, pairs_fit}
+
+-- the part of a slice behind its first two elements, as a pattern gives it
+pub behind_two : (x y : ℕ) (xs : List ℕ) → take (length (x ∷ y ∷ xs) - 2) (drop 2 (x ∷ y ∷ xs)) ≡ xs
+behind_two x y xs = take_rest (x ∷ y ∷ xs) 2
+
+-- a list of two elements or more, written out
+pub two_and_rest : (xs : List ℕ) → 2 ≤ length xs → xs ≡ slice_index xs 0 ∷ slice_index xs 1 ∷ take (length xs - 2) (drop 2 xs)
+two_and_rest [] h = absurd (omega arith)
+two_and_rest (x ∷ []) h = absurd (omega arith)
+two_and_rest (x ∷ y ∷ xs) h = ap (λ zs. x ∷ y ∷ zs) (sym (behind_two x y xs))
+
+-- one pair on
+pub within_behind : (cells : ℕ) (xs : List ℕ) → 2 ≤ length xs → slice_index xs 0 < cells → within cells (values_names (take (length xs - 2) (drop 2 xs))) ≡ within cells (values_names xs)
+within_behind cells [] h l = absurd (omega arith)
+within_behind cells (c ∷ []) h l = absurd (omega arith)
+within_behind cells (c ∷ v ∷ rest) h l =
+    ap (λ xs. within cells (values_names xs)) (behind_two c v rest) ∙ sym (ap (λ b. b && within cells (values_names rest)) (lt-ltb c cells l))
+
+pub rising_behind : (low : ℕ) (xs : List ℕ) → 2 ≤ length xs → low ≤ slice_index xs 0 → rising_from (slice_index xs 0 + 1) (values_names (take (length xs - 2) (drop 2 xs))) ≡ rising_from low (values_names xs)
+rising_behind low [] h l = absurd (omega arith)
+rising_behind low (c ∷ []) h l = absurd (omega arith)
+rising_behind low (c ∷ v ∷ rest) h l =
+    ap (λ n. rising_from n (values_names (take (length (c ∷ v ∷ rest) - 2) (drop 2 (c ∷ v ∷ rest))))) (add-one c)
+    ∙ ap (λ xs. rising_from (suc c) (values_names xs)) (behind_two c v rest)
+    ∙ sym (ap (λ b. b && rising_from (suc c) (values_names rest)) (lt-ltb low (suc c) (omega arith)))
 
 pub nth_behind : (body : List ℕ) (i : ℕ) → length body / 2 ≤ i → nth (values_names body) i ≡ None
 nth_behind [] i h = refl

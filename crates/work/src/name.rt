@@ -4,6 +4,7 @@ ghost use Rattle.work.specs.Kinds.{reading, writing};
 
 use std::fmt;
 
+// `Default` fills the free room of a list of names.
 #[derive(Clone, Copy, PartialEq, Eq, Debug, Default)]
 pub struct Name {
     pub cell: u32,

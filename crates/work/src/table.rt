@@ -12,7 +12,7 @@ pub fn value(table: &[u32], cell: u32) -> u32
 }
 
 // Gives a cell its value; behind the end nothing changes.
-// By an index: of a slice behind `get_mut` a proof knows the length, and no element.
+// By an index; tried by `get_mut`: of a slice behind it a proof knows the length, and no element.
 pub fn store(table: &mut [u32], cell: u32, value: u32)
     ensures { table.new ≡ slice_set table.old cell value }
 {
