@@ -79,6 +79,36 @@ module _ (ws : List ℕ) (n : ℕ) (some : 0 < length ws) (few : length ws ≤ 1
   pub mount_made : all_blank (drop n ws) ≡ true → PageMounted ws n []
   mount_made blank = record { accepted = append-nil (page_found ws); settled = counted }
 
+-- words are programmed behind those that a mount finds
+module _ (ws : List ℕ) (n : ℕ) (more : List ℕ) (sound : page_sound ws ≡ true) (counted : n ≡ length (page_found ws)) (fits : n + length more ≤ length ws) (unblank : none_blank more ≡ true) where
+  after : (low : ℕ) → low ≤ n → Programmed ws n more (page_words ws more) low
+  after low enough = programmed more ws n (page_words ws more) low counted enough refl (sound_parts ws sound).2 unblank fits
+
+  still_sound : (m : List ℕ) → length m ≡ length ws → blank_behind m ≡ true → page_sound m ≡ true
+  still_sound m long behind =
+      let parts = sound_parts ws sound in
+      sound_is m (omega (arith, parts.0)) (omega (arith, parts.1)) ∙ behind
+
+  pub programmed_found : page_found (written ws n more) ≡ page_found ws ++ more
+  programmed_found = (after 0 (omega arith)).found
+
+  pub programmed_intact : (end : ℕ) → end ≡ n + length more → PageIntact (written ws n more) end []
+  programmed_intact end e =
+      let long = length_written ws n more in
+      let count : end ≡ length (page_found (written ws n more)) = e ∙ ap (λ k. k + length more) counted ∙ sym (ap length programmed_found ∙ length-append (page_found ws) more) in
+      record { sound = still_sound (written ws n more) long (after 0 (omega arith)).behind; counted = count; fits = omega arith; few = omega arith; unblank = refl }
+
+  pub programmed_sound : AllByRecursion (λ m. page_sound m ≡ true) (writes ws n more)
+  programmed_sound =
+      All-weaker (λ m. (blank_behind m ≡ true) × (length m ≡ length ws) × Kept (page_words ws more) 0 (page_found m)) (λ m. page_sound m ≡ true) (λ m h. still_sound m h.1 h.0) (writes ws n more) (after 0 (omega arith)).moments
+
+  pub programmed_gapless : Gapless (page_found ws) (map page_found (writes ws n more)) (page_found (written ws n more))
+  programmed_gapless = subst (λ l. Gapless (page_found ws) (map page_found (writes ws n more)) l) (sym programmed_found) (after 0 (omega arith)).gapless
+
+  pub programmed_kept : (words : List ℕ) (low : ℕ) → words ≡ page_found ws ++ more → low ≤ n → AllByRecursion (Kept words low) (map page_found (writes ws n more))
+  programmed_kept words low whole enough =
+      All-map (Kept words low) page_found (writes ws n more) (All-weaker (λ m. (blank_behind m ≡ true) × (length m ≡ length ws) × Kept (page_words ws more) low (page_found m)) (λ m. Kept words low (page_found m)) (λ m h. subst (λ l. Kept l low (page_found m)) (sym whole) h.2) (writes ws n more) (after low enough).moments)
+
 -- the words `more` are programmed behind the n words of a memory, which leaves `after`, and no word waits
 pub record PageProgrammed (ws : List ℕ) (n : ℕ) (more after waiting : List ℕ) (end : ℕ) : Type 0 where
   pub intact : PageIntact after end waiting
@@ -89,27 +119,15 @@ pub record PageProgrammed (ws : List ℕ) (n : ℕ) (more after waiting : List �
   pub kept : (words : List ℕ) → words ≡ page_words ws more → AllByRecursion (Kept words n) (map page_found (writes ws n more))
 
 module _ (ws : List ℕ) (n : ℕ) (more : List ℕ) (sound : page_sound ws ≡ true) (counted : n ≡ length (page_found ws)) (fits : n + length more ≤ length ws) (unblank : none_blank more ≡ true) where
-  after : Programmed ws n more (page_words ws more) n
-  after = programmed more ws n (page_words ws more) n counted (omega arith) refl (sound_parts ws sound).2 unblank fits
-
-  still_sound : (m : List ℕ) → length m ≡ length ws → blank_behind m ≡ true → page_sound m ≡ true
-  still_sound m long behind =
-      let parts = sound_parts ws sound in
-      sound_is m (omega (arith, parts.0)) (omega (arith, parts.1)) ∙ behind
-
   programmed_page : PageProgrammed ws n more (written ws n more) [] (n + length more)
-  programmed_page =
-      let long = length_written ws n more in
-      let words : page_words (written ws n more) [] ≡ page_words ws more = append-nil (page_found (written ws n more)) ∙ after.found in
-      let count : n + length more ≡ length (page_found (written ws n more)) = ap (λ k. k + length more) counted ∙ sym (ap length after.found ∙ length-append (page_found ws) more) in
-      record {
-        intact = record { sound = still_sound (written ws n more) long after.behind; counted = count; fits = omega arith; few = omega arith; unblank = refl };
-        words = words;
-        same_room = long;
-        sound = All-weaker (λ m. (blank_behind m ≡ true) × (length m ≡ length ws) × Kept (page_words ws more) n (page_found m)) (λ m. page_sound m ≡ true) (λ m h. still_sound m h.1 h.0) (writes ws n more) after.moments;
-        gapless = subst (λ l. Gapless (page_found ws) (map page_found (writes ws n more)) l) (sym after.found) after.gapless;
-        kept = λ whole same. All-map (Kept whole n) page_found (writes ws n more) (All-weaker (λ m. (blank_behind m ≡ true) × (length m ≡ length ws) × Kept (page_words ws more) n (page_found m)) (λ m. Kept whole n (page_found m)) (λ m h. subst (λ l. Kept l n (page_found m)) (sym same) h.2) (writes ws n more) after.moments);
-      }
+  programmed_page = record {
+    intact = programmed_intact ws n more sound counted fits unblank (n + length more) refl;
+    words = append-nil (page_found (written ws n more)) ∙ programmed_found ws n more sound counted fits unblank;
+    same_room = length_written ws n more;
+    sound = programmed_sound ws n more sound counted fits unblank;
+    gapless = programmed_gapless ws n more sound counted fits unblank;
+    kept = λ words whole. programmed_kept ws n more sound counted fits unblank words n whole (omega arith);
+  }
 
   pub page_programmed : (held waiting : List ℕ) (end : ℕ) → held ≡ written ws n more → waiting ≡ [] → end ≡ n + length more → PageProgrammed ws n more held waiting end
   page_programmed held waiting end stored empty count =

@@ -65,11 +65,28 @@ abbrev with_operation : ℕ → Command → Command
 with_operation k f =
     record { operation = k; sender = f.sender; number = f.number; a = f.a; b = f.b; c = f.c; spare = f.spare; amount = f.amount }
 
-adding_from : (cells : ℕ) (f : Command) → Sound cells f → f.operation ≡ 1 → Used cells f.a
-adding_from cells f h e = let there = h.all_cells_there in used_from cells f.a (grind (arith, nat_tests))
+closing_from : (cells : ℕ) (f : Command) → cells_there cells (with_operation 2 f) ≡ true → cells_apart (with_operation 2 f) ≡ true → Closing cells f
+closing_from cells f there apart = record {
+  a_used = used_from cells f.a (grind (arith, nat_tests));
+  b_used = used_from cells f.b (grind (arith, nat_tests));
+  a_not_b = grind (arith, nat_tests);
+}
 
-closing_from : (cells : ℕ) (f : Command) → Sound cells f → f.operation ≡ 2 → Closing cells f
-closing_from cells f h e =
+latching_from : (cells : ℕ) (f : Command) → cells_there cells (with_operation 3 f) ≡ true → cells_apart (with_operation 3 f) ≡ true → Latching cells f
+latching_from cells f there apart = record {
+  a_used = used_from cells f.a (grind (arith, nat_tests));
+  b_used = used_from cells f.b (grind (arith, nat_tests));
+  c_used = used_from cells f.c (grind (arith, nat_tests));
+  a_not_b = grind (arith, nat_tests);
+  a_not_c = grind (arith, nat_tests);
+  b_not_c = grind (arith, nat_tests);
+}
+
+adding_of : (cells : ℕ) (f : Command) → Sound cells f → f.operation ≡ 1 → Used cells f.a
+adding_of cells f h e = let there = h.all_cells_there in used_from cells f.a (grind (arith, nat_tests))
+
+closing_of : (cells : ℕ) (f : Command) → Sound cells f → f.operation ≡ 2 → Closing cells f
+closing_of cells f h e =
     let there = h.all_cells_there in
     let apart = h.cells_are_apart in
     record {
@@ -78,8 +95,8 @@ closing_from cells f h e =
       a_not_b = grind (arith, nat_tests);
     }
 
-latching_from : (cells : ℕ) (f : Command) → Sound cells f → f.operation ≡ 3 → Latching cells f
-latching_from cells f h e =
+latching_of : (cells : ℕ) (f : Command) → Sound cells f → f.operation ≡ 3 → Latching cells f
+latching_of cells f h e =
     let there = h.all_cells_there in
     let apart = h.cells_are_apart in
     record {
@@ -98,10 +115,10 @@ by_each P cells f h add close latch =
     let back : (k : ℕ) → f.operation ≡ k → P (with_operation k f) → P f = λ k e p. subst (λ n. P (with_operation n f)) (sym e) p in
     elim one [
       | inl e ↦ elim e [
-        | inl e ↦ back 1 e (add (adding_from cells f h e))
-        | inr e ↦ back 2 e (close (closing_from cells f h e))
+        | inl e ↦ back 1 e (add (adding_of cells f h e))
+        | inr e ↦ back 2 e (close (closing_of cells f h e))
       ]
-      | inr e ↦ back 3 e (latch (latching_from cells f h e))
+      | inr e ↦ back 3 e (latch (latching_of cells f h e))
     ]
 
 -- names that are put into their places
