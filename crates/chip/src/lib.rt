@@ -8,7 +8,8 @@
 //     let first = chip.read_word(0)?;
 //
 // `memory` has the trait of a word memory and `ram` one in RAM; `chip` has the trait of a chip with its laws; `page` and
-// `count` implement it, and `choice` implements it for one of two kinds of chip. `refusal` has the refusals and their numbers, `words` the numbers that every chip shares.
+// `count` implement it, and `choice` implements it for one of two kinds of chip. `refusal` has the refusals and their
+// numbers, `words` the numbers that every chip shares.
 #![tactic(auto)]
 
 pub mod chip;
