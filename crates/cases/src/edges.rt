@@ -117,3 +117,22 @@ fn a_third_kind_is_written_read_and_run(rt: HostRuntime) -> Result<(), Fail> {
     assert_eq!(rt; table[1], 6);
     Ok(())
 }
+
+#[test]
+fn words_and_records_are_handed_on_by_value(rt: HostRuntime) -> Result<(), Fail> {
+    let words = write(NONE, &[8, 5])?;
+    let same_words = words;
+    assert_eq!(rt; words, same_words);
+    let at = Origin {
+        chips: 1,
+        chip: 0,
+        start: 0,
+    };
+    let record = read(&Values, 12, at, &words)?.ok_or("no record")?;
+    let same_record = record;
+    assert_eq!(rt; record, same_record);
+    let body = record.body;
+    assert_eq!(rt; body.as_slice(), same_record.body.as_slice());
+    assert_eq!(rt; body.payloads[2], 0);
+    Ok(())
+}

@@ -1,11 +1,10 @@
 // Commands: a body is three payloads, an operation with its sender and number, cells, and an amount.
-ghost use Rattle.std.specs.Prelude.{◌≡◌, ◌<◌};
-ghost use Rattle.arrayvec.specs.ArrayVec.{array_vec_len};
-ghost use Rattle.commands.specs.Commands.{commands, fields, fit_fields, body_of, FieldsGivenBack, above_latest, command_effect, acted, unused_are_zero, usable, cells_there, cells_apart, placed, command_names, OnceOnly};
+ghost use Rattle.std.specs.Prelude.{◌≡◌, [], ◌∷◌};
+ghost use Rattle.work.specs.Kinds.{nth};
+ghost use Rattle.commands.specs.Commands.{commands, fields, fit_fields, body_of, FieldsGivenBack, above_latest, command_effect, acted, unused_are_zero, usable, cells_there, cells_apart, placed, OnceOnly};
 ghost use Rattle.commands.specs.CommandLaws.{commands_lawful};
 
 use crate::operation::Operation;
-use arrayvec::ArrayVec;
 use vector::format::PAYLOADS;
 use work::fault::BodyFault;
 use work::kind::Work;
@@ -128,28 +127,6 @@ impl Command {
         }
     }
 
-    // The sender's cell is below every cell that an operation can use, so it comes first; at most three follow.
-    fn names(self) -> ArrayVec<Name, 4>
-        ensures { result.items ≡ command_names self }
-    {
-        let mut names = ArrayVec::new();
-        match Operation::try_from(self.operation) {
-            Ok(Operation::Add) => place(&mut names, Name::writing(self.a)),
-            Ok(Operation::Close) => {
-                place(&mut names, Name::writing(self.b));
-                place(&mut names, Name::writing(self.a));
-            }
-            Ok(Operation::Latch) => {
-                place(&mut names, Name::writing(self.c));
-                place(&mut names, Name::reading(self.b));
-                place(&mut names, Name::reading(self.a));
-            }
-            Err(_) => {}
-        }
-        names.insert(0, Name::writing(self.sender));
-        names
-    }
-
     // Whether the number is above the latest of its sender.
     fn is_new(self, table: &[u32]) -> bool
         ensures { result ≡ above_latest self table.now }
@@ -185,16 +162,27 @@ fn usable(cells: u32, cell: u32) -> bool
     (SENDERS..cells).contains(&cell)
 }
 
-// Puts a name into its place among rising ones.
-fn place(names: &mut ArrayVec<Name, 4>, name: Name)
-    requires { array_vec_len names.old < 4 }
-    ensures { names.new.items ≡ placed name names.old.items }
+// Of two names that rise, the one at an index.
+fn of_two(x: Name, y: Name, index: usize) -> Option<Name>
+    ensures { result ≡ nth (placed x (y ∷ [])) index }
 {
-    let place = names
-        .iter()
-        .position(|other| name.cell < other.cell)
-        .unwrap_or(names.len());
-    names.insert(place, name);
+    match (index, x.cell < y.cell) {
+        (0, true) | (1, false) => Some(x),
+        (0, false) | (1, true) => Some(y),
+        _ => None,
+    }
+}
+
+fn of_three(x: Name, y: Name, z: Name, index: usize) -> Option<Name>
+    ensures { result ≡ nth (placed x (placed y (z ∷ []))) index }
+{
+    let (low, high) = if y.cell < z.cell { (y, z) } else { (z, y) };
+    match (index, x.cell < low.cell, x.cell < high.cell) {
+        (0, true, _) | (1, false, true) | (2, false, false) => Some(x),
+        (0, false, _) | (1, true, _) => Some(low),
+        (1, false, false) | (2, _, _) => Some(high),
+        _ => None,
+    }
 }
 
 impl Work for Commands {
@@ -223,8 +211,28 @@ impl Work for Commands {
         Ok(())
     }
 
+    // The sender's cell is below every cell that an operation can use, so it comes first. By comparisons and not out of a list of
+    // all names, which would be made anew for each index.
     fn name(&self, body: &[u32], index: usize) -> Option<Name> {
-        Command::of(body).names().get(index).copied()
+        let command = Command::of(body);
+        if index == 0 {
+            return Some(Name::writing(command.sender));
+        }
+        match Operation::try_from(command.operation) {
+            Ok(Operation::Add) if index == 1 => Some(Name::writing(command.a)),
+            Ok(Operation::Close) => of_two(
+                Name::writing(command.a),
+                Name::writing(command.b),
+                index - 1,
+            ),
+            Ok(Operation::Latch) => of_three(
+                Name::reading(command.a),
+                Name::reading(command.b),
+                Name::writing(command.c),
+                index - 1,
+            ),
+            _ => None,
+        }
     }
 
     #[tactic(auto, using(crate::specs::CommandLaws::once_only))]

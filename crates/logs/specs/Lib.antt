@@ -1,4 +1,5 @@
 pub mod Faults
+pub mod Lists
 pub mod Readers
 pub mod Reading
 pub mod RoundTrip

@@ -5,12 +5,12 @@
 --   moved r n            the reader with so many more words passed
 --   passed r result      the reader behind the next word if that was found sound, and else as it was
 use Rattle.std.specs.Prelude.{◌≡◌, ℕ, ◌+◌, cond, List, [], drop, Ok, Err, Result, MatchOption, is_ok}
-use Rattle.arrayvec.specs.ArrayVec.{ArrayVec}
 use Rattle.vector.specs.Vectors.{zeros}
 use Rattle.logs.specs.declared.fault.Cause.{Cause}
 use Rattle.logs.specs.declared.fault.Stop.{Stop}
 use Rattle.logs.specs.declared.fault.Stop.TheVariants.{RunsOut}
 use Rattle.logs.specs.declared.reader.Reader.{Reader}
+use Rattle.logs.specs.declared.record.Body.{Body}
 use Rattle.logs.specs.Reading.{and_then, next_part, placed_at, word_at, entries_read, payloads_read, in_body}
 
 abbrev pub next_of : {X : Type 0} → Reader → (ℕ → Result X Cause) → Result X Stop
@@ -24,7 +24,7 @@ IsPart {X} r judged result =
 abbrev pub vector_of : Reader → ℕ → Result (List ℕ) Stop
 vector_of r n = entries_read r.origin (r.origin.start + r.at) 0 zeros n (drop r.at r.words.now)
 
-abbrev pub body_of : Reader → ℕ → Result (ArrayVec ℕ) Stop
+abbrev pub body_of : Reader → ℕ → Result Body Stop
 body_of r n =
     and_then (payloads_read r.origin (r.origin.start + r.at) [] n (drop r.at r.words.now)) (λ b. Ok (in_body b))
 

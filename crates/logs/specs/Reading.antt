@@ -13,7 +13,6 @@
 --   read_answer work cells o ws         the same as an answer: a record, none since the words run out, or a fault
 -- `o` says which chip's log it is, of how many, and where the record starts; `ws` are the log's words from there on.
 use Rattle.std.specs.Prelude.{ℕ, zero, suc, ◌+◌, ◌/◌, ◌%◌, Bool, cond, ◌&&◌, List, [], ◌∷◌, ◌++◌, length, drop, Some, None, Ok, Err, Option, Result, ◌==◌, nat_le, nat_lt, slice_index, slice_set}
-use Rattle.arrayvec.specs.ArrayVec.{ArrayVec}
 use Rattle.vector.specs.Format.{kind_of, payload_of, places, chips_at_most, body_at_most}
 use Rattle.vector.specs.Vectors.{zeros}
 use Rattle.work.specs.Kinds.{Kind}
@@ -26,7 +25,9 @@ use Rattle.logs.specs.declared.fault.Stop.TheVariants.{RunsOut, Fault}
 use Rattle.logs.specs.declared.record.Origin.{Origin}
 use Rattle.logs.specs.declared.record.Head.{Head}
 use Rattle.logs.specs.declared.record.Entry.{Entry}
+use Rattle.logs.specs.declared.record.Body.{Body}
 use Rattle.logs.specs.declared.record.Record.{Record}
+use Rattle.logs.specs.Lists.{padded}
 
 abbrev pub and_then : {X Y E : Type 0} → Result X E → (X → Result Y E) → Result Y E
 and_then (Ok x) f = f x
@@ -120,8 +121,8 @@ abbrev pub record_read : Kind → ℕ → Origin → List ℕ → Result Found S
 record_read work cells o ws =
     and_then (parts_read o ws) (λ f. and_then (placed_at o o.start (body_fault (work.judged f.body cells))) (λ _. Ok f))
 
-abbrev pub in_body : List ℕ → ArrayVec ℕ
-in_body b = record { items = b }
+abbrev pub in_body : List ℕ → Body
+in_body b = record { payloads = padded 16 b; count = length b }
 
 abbrev pub in_record : Found → Record
 in_record f = record { end = f.end; vector = f.vector; body = in_body f.body }

@@ -9,9 +9,10 @@
 --   write_answer v b        the words, or why they cannot be written
 use Rattle.std.specs.Prelude.{ℕ, suc, ◌+◌, ◌*◌, Bool, cond, ◌&&◌, List, [], ◌∷◌, ◌++◌, map, length, Ok, Err, Result, ◌==◌, nat_le, nat_lt}
 use Rattle.std.specs.List.{list_all}
-use Rattle.arrayvec.specs.ArrayVec.{ArrayVec}
 use Rattle.vector.specs.Format.{payloads, places, body_at_most}
 use Rattle.work.specs.Kinds.{fit_payloads}
+use Rattle.logs.specs.Lists.{padded}
+use Rattle.logs.specs.declared.writer.Words.{Words}
 use Rattle.logs.specs.declared.writer.Unwritable.{Unwritable}
 use Rattle.logs.specs.declared.writer.Unwritable.TheVariants.{BodyLength, WidePayload, FarPlace}
 
@@ -34,10 +35,10 @@ record_words v b = head_word (length (entry_words 0 v)) (length b) ∷ (entry_wo
 abbrev pub fit_places : List ℕ → Bool
 fit_places v = list_all (λ place. nat_lt place places) v
 
-abbrev pub in_words : List ℕ → ArrayVec ℕ
-in_words ws = record { items = ws }
+abbrev pub in_words : List ℕ → Words
+in_words ws = record { words = padded 25 ws; count = length ws }
 
-abbrev pub write_answer : List ℕ → List ℕ → Result (ArrayVec ℕ) Unwritable
+abbrev pub write_answer : List ℕ → List ℕ → Result Words Unwritable
 write_answer v b =
     cond (nat_lt 0 (length b) && nat_le (length b) body_at_most)
     (cond (fit_payloads b)

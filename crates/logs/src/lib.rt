@@ -12,6 +12,7 @@
 #![tactic(auto)]
 
 pub mod fault;
+mod fixed_list;
 pub mod reader;
 pub mod record;
 pub mod writer;

@@ -6,7 +6,7 @@ ghost use Rattle.logs.specs.RoundTrip.{OnlyWritten};
 ghost use Rattle.logs.specs.Reading.{and_then, of_kind, fault_of, head_of, entry_of, payload_in, body_fault, parts_read, record_read, read_answer, in_record};
 
 use crate::fault::{Cause, RecordFault, Stop};
-use crate::record::{Body, Entry, Head, Origin, Record};
+use crate::record::{Body, Entry, Head, Origin, Payloads, Record};
 use vector::format::{BODY_STEP, CHIPS, PAYLOADS_OF_A_BODY, PLACES};
 use vector::kind::Kind;
 use vector::word::payload;
@@ -144,11 +144,11 @@ impl<'a> Reader<'a> {
         ensures answer { result ≡ body_of self.old count }
         ensures after { OnOk result (self.new ≡ moved self.old count) }
     {
-        let mut body = Body::new();
+        let mut body = Payloads::new();
         for _ in 0..count {
             body.push(self.payload()?);
         }
-        Ok(body)
+        Ok(Body::of(body))
     }
 }
 

@@ -1,19 +1,68 @@
 // The writer lays out the words of a record: a head, a word for each entry of the vector that is not 0, in rising chip
 // number, and a word for each payload of the body.
-ghost use Rattle.std.specs.Prelude.{◌≡◌, ◌+◌, ◌≤◌, true, not, ◌++◌, map, length, is_ok, ◌==◌};
+ghost use Rattle.std.specs.Prelude.{◌≡◌, ◌+◌, ◌≤◌, true, not, ◌++◌, map, length, take, is_ok, ◌==◌};
 ghost use Rattle.work.specs.Kinds.{fit_payloads};
-ghost use Rattle.arrayvec.specs.ArrayVec.{array_vec_len};
 ghost use Rattle.logs.specs.RoundTrip.{ReadsBack};
 ghost use Rattle.logs.specs.Words.{body_word, entry_words, record_words, fit_places, in_words, write_answer};
 
-use arrayvec::ArrayVec;
+use crate::fixed_list::FixedList;
+use std::fmt;
+use std::ops::DerefSlice;
 use thiserror::Error;
 use vector::format::{BODY_STEP, PAYLOADS, PAYLOADS_OF_A_BODY, PLACES, WORDS_OF_A_RECORD};
 use vector::kind::Kind;
 use work::table::payloads_fit;
 
-// The words of one record.
-pub type Words = ArrayVec<u32, WORDS_OF_A_RECORD>;
+// The words of one record while they are laid out.
+type Laid = FixedList<WORDS_OF_A_RECORD>;
+
+// The words of one record; the array is 0 behind them.
+#[derive(Clone, Copy, PartialEq, Eq)]
+pub struct Words {
+    pub words: [u32; WORDS_OF_A_RECORD],
+    pub count: usize,
+}
+
+impl Words {
+    fn of(words: Laid) -> Words
+        ensures { result ≡ in_words words.items }
+    {
+        let FixedList {
+            cells: words,
+            len: count,
+        } = words;
+        Words { words, count }
+    }
+
+    pub fn as_slice(&self) -> &[u32]
+        ensures value { result.now ≡ take self.now.count self.now.words }
+        ensures fits { length result.now ≤ 25 }
+    {
+        &self.words[..self.count.min(WORDS_OF_A_RECORD)]
+    }
+
+    pub fn len(&self) -> usize
+        ensures { result ≡ length (take self.now.count self.now.words) }
+    {
+        self.as_slice().len()
+    }
+}
+
+impl DerefSlice for Words {
+    type Elem = u32;
+
+    ghost deref_gives = { λ words xs. (xs ≡ take words.count words.words) × (length xs ≤ 25) };
+
+    fn deref(&self) -> &[u32] {
+        self.as_slice()
+    }
+}
+
+impl fmt::Debug for Words {
+    fn fmt<W: fmt::Write>(&self, f: &mut fmt::Formatter<W>) -> fmt::Result {
+        fmt::Debug::fmt(self.as_slice(), f)
+    }
+}
 
 // Why a vector and a body are no record.
 #[derive(Clone, Copy, PartialEq, Eq, Debug, Error)]
@@ -48,8 +97,8 @@ fn entries(vector: [u32; 8]) -> u32
     vector.iter().filter(|&&place| has_word(place)).count() as u32
 }
 
-fn push_entries(words: &mut Words, vector: [u32; 8])
-    requires room { array_vec_len words.old ≤ 17 }
+fn push_entries(words: &mut Laid, vector: [u32; 8])
+    requires room { length words.old.items ≤ 17 }
     requires places { fit_places vector ≡ true }
     ensures { words.new.items ≡ words.old.items ++ entry_words 0 vector }
 {
@@ -61,8 +110,8 @@ fn push_entries(words: &mut Words, vector: [u32; 8])
 }
 
 #[tactic(auto, using(crate::proofs::WriterLaws::payload_fits))]
-fn push_payloads(words: &mut Words, body: &[u32])
-    requires room { array_vec_len words.old + length body.now ≤ 25 }
+fn push_payloads(words: &mut Laid, body: &[u32])
+    requires room { length words.old.items + length body.now ≤ 25 }
     requires payloads { fit_payloads body.now ≡ true }
     ensures { words.new.items ≡ words.old.items ++ map body_word body.now }
 {
@@ -78,11 +127,11 @@ fn laid_out(vector: [u32; 8], body: &[u32]) -> Words
     requires payloads { fit_payloads body.now ≡ true }
     ensures { result ≡ in_words (record_words vector body.now) }
 {
-    let mut words = Words::new();
+    let mut words = Laid::new();
     words.push(entries(vector) + BODY_STEP * body.len() as u32);
     push_entries(&mut words, vector);
     push_payloads(&mut words, body);
-    words
+    Words::of(words)
 }
 
 // The words of a record. Read again, they are its vector and its body.

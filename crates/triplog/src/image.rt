@@ -3,11 +3,8 @@ use crate::cause::Cause;
 use std::alloc::{AllocError, Global};
 use std::fs;
 
-pub fn bytes_of(heap: Global, words: &[u32]) -> Result<Vec<u8>, AllocError> {
-    words
-        .iter()
-        .flat_map(|word| word.to_le_bytes())
-        .collect(heap)
+pub fn bytes_of(heap: Global, words: &[u32]) -> Result<Vec<[u8; 4]>, AllocError> {
+    words.iter().map(|word| word.to_le_bytes()).collect(heap)
 }
 
 pub fn read(rt: &HostRuntime, file: &str) -> Result<Vec<u32>, Cause> {
@@ -43,8 +40,10 @@ pub fn write_all(rt: &HostRuntime, files: &[String], images: &[Vec<u32>]) -> Res
 fn write_part(rt: &HostRuntime, file: &str, image: &[u32]) -> Result<(), Cause> {
     let heap = rt.alloc();
     let part = format!(in heap; "{file}.part")?;
-    let bytes = bytes_of(heap, image)?;
-    fs::write(rt, part.as_str(), bytes.as_slice()).map_err(|error| Cause::Unwritten(part, error))
+    let fours = bytes_of(heap, image)?;
+    fs::write(rt, part.as_str(), fours.as_flattened()).map_err(|error| Cause::Unwritten(
+        part, error,
+    ))
 }
 
 fn put_in_place(rt: &HostRuntime, file: &str) -> Result<(), Cause> {

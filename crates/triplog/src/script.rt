@@ -86,23 +86,22 @@ impl fmt::Display for Command {
     }
 }
 
-// The command of a line; none where it is blank or only a comment.
+// The command of a line; none where it is blank or only a comment, and then nothing is collected.
 pub fn parse(heap: Global, line: &str) -> Result<Option<Command>, Cause> {
-    let tokens = tokens(heap, line)?;
-    match tokens.as_slice() {
-        [] => Ok(None),
-        [verb, rest @ ..] => Ok(Some(parse_command(heap, verb.as_str(), rest)?)),
-    }
+    let mut pieces = line.split_whitespace();
+    let verb = match pieces.next() {
+        Some(verb) if !begins_comment(verb) => verb,
+        _ => return Ok(None),
+    };
+    let rest: Vec<String> = pieces
+        .take_while(|piece| !begins_comment(piece))
+        .map(|piece| String::from_str(heap, piece))
+        .try_collect(heap)?;
+    Ok(Some(parse_command(heap, verb, rest.as_slice())?))
 }
 
-// The pieces of a line between its blanks. A piece that begins with '#' starts a comment.
-fn tokens(heap: Global, line: &str) -> Result<Vec<String>, Cause> {
-    Ok(
-        line.split_whitespace()
-            .take_while(|piece| !piece.starts_with('#'))
-            .map(|piece| String::from_str(heap, piece))
-            .try_collect(heap)?,
-    )
+fn begins_comment(piece: &str) -> bool {
+    piece.starts_with('#')
 }
 
 fn parse_command(heap: Global, verb: &str, rest: &[String]) -> Result<Command, Cause> {

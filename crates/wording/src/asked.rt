@@ -2,7 +2,7 @@
 use crate::draft::read_body;
 use crate::misread::Misread;
 use crate::number::word;
-use crate::pieces::numbers_at;
+use crate::pieces::fields_at;
 use listing::chosen::Chosen;
 use listing::records::Reading;
 use std::alloc::Global;
@@ -48,7 +48,7 @@ pub fn read_reading(heap: Global, pieces: &[String]) -> Result<Reading, Misread>
         return Err(Misread::Shape(RECORDS_FORM));
     };
     let kind = read_kind(heap, kind.as_str())?;
-    let [cells, chip, chips] = numbers_at::<3>(heap, MARKS, RECORDS_FORM, rest)?;
+    let [cells, chip, chips] = fields_at::<3>(heap, MARKS, RECORDS_FORM, rest)?;
     if chips == 0 || chips as usize > CHIPS {
         return Err(Misread::ChipCount(chips));
     }

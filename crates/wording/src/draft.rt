@@ -1,7 +1,7 @@
 // A record's body and vector, read from the pieces of a line.
 use crate::misread::Misread;
 use crate::number::word;
-use crate::pieces::{numbers_at, words};
+use crate::pieces::{fields_at, words};
 use commands::commands::Command;
 use commands::operation::Operation;
 use listing::field::payloads;
@@ -70,7 +70,7 @@ pub fn read_body(heap: Global, pieces: &[String]) -> Result<Vec<u32>, Misread> {
 fn read_command(heap: Global, verb: &str, pieces: &[String]) -> Result<Command, Misread> {
     match verb {
         "add" => {
-            let [amount, a, sender, number] = numbers_at::<4>(heap, ADD_FORM, ADD_FORM, pieces)?;
+            let [amount, a, sender, number] = fields_at::<4>(heap, ADD_FORM, ADD_FORM, pieces)?;
             Ok(Command {
                 operation: u32::from(Operation::Add),
                 sender,
@@ -81,7 +81,7 @@ fn read_command(heap: Global, verb: &str, pieces: &[String]) -> Result<Command, 
             })
         }
         "close" => {
-            let [a, b, sender, number] = numbers_at::<4>(heap, CLOSE_FORM, CLOSE_FORM, pieces)?;
+            let [a, b, sender, number] = fields_at::<4>(heap, CLOSE_FORM, CLOSE_FORM, pieces)?;
             Ok(Command {
                 operation: u32::from(Operation::Close),
                 sender,
@@ -92,7 +92,7 @@ fn read_command(heap: Global, verb: &str, pieces: &[String]) -> Result<Command, 
             })
         }
         "latch" => {
-            let [a, c, b, amount, sender, number] = numbers_at::<6>(
+            let [a, c, b, amount, sender, number] = fields_at::<6>(
                 heap, LATCH_FORM, LATCH_FORM, pieces,
             )?;
             Ok(Command {

@@ -1,5 +1,6 @@
-use Rattle.std.proofs.Common.{◌≡◌, ◌+◌, ◌<◌, true, map, length, sym, refl, ap, ◌∙◌, subst, arith, rules}
+use Rattle.std.proofs.Common.{◌≡◌, ◌+◌, ◌<◌, [], ◌∷◌, ◌++◌, true, map, length, sym, refl, ap, ◌∙◌, subst, arith, rules}
 use Rattle.std.proofs.lemmas.Bool.{both_ways}
+use Rattle.std.proofs.lemmas.List.{places}
 use Rattle.chip.specs.Page.{page_words, page_found, PageIntact, writes}
 use Rattle.chip.proofs.CallLaws.{taken_answer, taken_leaves}
 use Rattle.chip.specs.PageLaws.{length_words, collected_words, collected_intact, early_programs, page_filled}
@@ -19,8 +20,10 @@ invariant_of-self g c =
     let ws = g.M.Memory.holds s.memory in
     let room : s.programmed + length s.waiting.items < length ws = omega (arith, c.count.ensures, c.capacity.ensures, c.if-count-capacity.false, length_words ws s.programmed s.waiting.items s.intact) in
     let full : length c.push.new.self.items ≡ 16 = search (rules, arith) in
-    let long : length c.deref.result.now ≡ 16 = ap length c.deref.ensures.0 ∙ full in
-    let filled = page_filled ws s.programmed s.waiting.items s.intact c.deref.result.now (g.M.Memory.holds c.program.new.memory) c.clear.new.self.items (s.programmed + 16) c.program.ensures.memory c.clear.ensures c.args.word c.if-word-eq-BLANK.false room (c.deref.ensures.0 ∙ c.push.ensures.items) long refl in
+    let more = c.deref.result.now in
+    let long : length more ≡ 16 = search (rules, places, arith, full) in
+    let same : more ≡ s.waiting.items ++ c.args.word ∷ [] = search (rules, places, arith, full) in
+    let filled = page_filled ws s.programmed s.waiting.items s.intact more (g.M.Memory.holds c.program.new.memory) c.clear.new.self.items (s.programmed + 16) c.program.ensures.memory c.clear.ensures c.args.word c.if-word-eq-BLANK.false room same long refl in
     record { intact = filled.intact }
 
 pub returns-then-is_full : goal.returns-then-is_full
@@ -34,8 +37,8 @@ returns-then-is_full g c =
     let room : s.programmed + length s.waiting.items < length ws = omega (arith, c.count.ensures, c.capacity.ensures, c.if-count-capacity.false, length_words ws s.programmed s.waiting.items intact) in
     let space : length (page_words ws s.waiting.items) < length ws = omega (arith, length_words ws s.programmed s.waiting.items intact) in
     let full : length c.push.new.self.items ≡ 16 = search (rules, arith) in
-    let long : length more ≡ 16 = ap length c.deref.ensures.0 ∙ full in
-    let same = c.deref.ensures.0 ∙ c.push.ensures.items in
+    let long : length more ≡ 16 = search (rules, places, arith, full) in
+    let same : more ≡ s.waiting.items ++ w ∷ [] = search (rules, places, arith, full) in
     let filled = page_filled ws s.programmed s.waiting.items intact more (g.M.Memory.holds c.program.new.memory) c.clear.new.self.items (s.programmed + 16) c.program.ensures.memory c.clear.ensures w word room same long refl in
     let one_more = filled.words ∙ ap (page_words ws) same ∙ collected_words ws s.programmed s.waiting.items intact w word room in
     record {
